@@ -1,0 +1,71 @@
+-- Starts and steps: what a route shows of its own start and count, and the answer that follows. Assumes nothing.
+use mathlib.Core.Path.{_≡_, refl, sym, _∙_, ap, ap₂}
+use mathlib.Core.Bool.{Bool, true, false, cond}
+use Prim.Native.Nat.{ℕ, _+_, _*_, _-_, _^_, _≤_}
+use native.Mathlib.Nat.{mul-one}
+use native.Mathlib.Omega.{arith}
+use lib.Dec.{leb, eqb}
+use borrow.Author.Tests.{le-leb, eq-eqb, ne-eqb, eqb-true, eqb-false}
+use Rattle.defs.specs.Kinds.{Kind, square, cube, pow, Width, u8}
+use Rattle.defs.specs.Roots.{IsRoot, RootRem, rootOf}
+use Rattle.defs.specs.Starts.{S, start8}
+use Rattle.defs.specs.Cells.{startOf, stepsOf, shiftOf, raised, fullStart, fullSteps}
+use Rattle.defs.specs.Answers.{Full, Fixed}
+use Rattle.laws.proofs.Roots.{one-root, one-answer, root-is, root-of-zero}
+
+-- where the power of S is at most n the start is S
+pub not-lowered : (k : Kind) (w : Width) (n : ℕ) → pow k (S k w n) ≤ n → startOf k w n ≡ S k w n
+unfolding startOf
+not-lowered k w n h = rw (le-leb (pow k (S k w n)) n h)
+
+-- no second answer fits a full call
+pub one-full : {k : Kind} {w : Width} {n a b c d a′ b′ c′ d′ : ℕ} → Full k w n a b c d → Full k w n a′ b′ c′ d′ →
+    (a ≡ a′) × (b ≡ b′) × (c ≡ c′) × (d ≡ d′)
+one-full {k} x y =
+    let same = one-answer k (x .root-rem) (y .root-rem) in
+    (same .0, same .1, x .is-start ∙ sym (y .is-start), x .is-steps ∙ sym (y .is-steps))
+
+-- the value 0 answers 0 throughout
+pub full-zero : (k : Kind) (w : Width) {n : ℕ} → n ≡ 0 → Full k w n 0 0 0 0
+unfolding fullStart fullSteps
+full-zero k w {n} e = record {
+  root-rem = record { is-root = root-of-zero k n e; is-rest = omega arith };
+  is-start = rw (eq-eqb n 0 e);
+  is-steps = rw (eq-eqb n 0 e)
+}
+
+-- any other value answers with the start of the value brought to its top bits, and the steps from there to its root
+pub full-raised : (k : Kind) (w : Width) {n root rest start steps : ℕ} → (n ≡ 0 → ⊥) → RootRem k n root rest →
+    start ≡ startOf k w (raised k w n) → start + steps ≡ rootOf k (raised k w n) → Full k w n root rest start steps
+unfolding fullStart fullSteps stepsOf
+full-raised k w {n} {root} {rest} {start} {steps} p answer e counted = record {
+  root-rem = answer;
+  is-start = rw (ne-eqb n 0 p) e;
+  is-steps = rw (ne-eqb n 0 p) (omega arith)
+}
+
+-- the u8 bill: a search from 0 answers with its root for a start, and no steps
+raised-8 : (k : Kind) (n : ℕ) → raised k u8 n ≡ n
+unfolding raised shiftOf
+raised-8 k n = mul-one n
+
+started-8 : (k : Kind) (n : ℕ) → startOf k u8 n ≡ rootOf k n
+unfolding start8
+started-8 k n = not-lowered k u8 n (root-is k n .fits)
+
+pub billed-8 : (k : Kind) {n root rest steps : ℕ} → Fixed k n 0 root rest steps → Full k u8 n root rest root 0
+billed-8 k {n} {root} {rest} f = by-test (eqb n 0) refl
+  where
+    is-root : root ≡ rootOf k n
+    is-root = one-root k (f .root-rem .is-root) (root-is k n)
+    by-test : (t : Bool) → eqb n 0 ≡ t → Full k u8 n root rest root 0
+    by-test true e =
+        let z = full-zero k u8 (eqb-true n 0 e) in
+        record {
+          root-rem = f .root-rem;
+          is-start = one-answer k (f .root-rem) (z .root-rem) .0 ∙ z .is-start;
+          is-steps = z .is-steps
+        }
+    by-test false e =
+        full-raised k u8 (eqb-false n 0 e) (f .root-rem) (rw (raised-8 k n, started-8 k n) is-root)
+        (rw (raised-8 k n) (omega (arith, is-root)))

@@ -1,0 +1,24 @@
+-- Powers over the kind: they rise, and the gap from one to the next is what a fix-up step takes off. Assumes nothing.
+use mathlib.Core.Path.{_≡_}
+use Prim.Native.Nat.{ℕ, suc, _+_, _*_, _≤_, _<_}
+use native.Mathlib.Nat.{mul-le-mul, lt-of-not-le, lt-of-lt-of-le, lt-irrefl, le-of-suc-le-suc}
+use native.Mathlib.Numerals.{add-one}
+use native.Mathlib.Omega.{arith}
+use Rattle.defs.specs.Kinds.{Kind, square, cube, pow}
+
+-- from the power of s to that of s + 1: the next odd number, or the next difference of cubes
+abbrev pub gap : Kind → ℕ → ℕ
+gap square s = 2 * s + 1
+gap cube s = 3 * (s * s + s) + 1
+
+pub next-power : (k : Kind) (s : ℕ) → pow k (s + 1) ≡ pow k s + gap k s
+next-power square s = omega arith
+next-power cube s = omega arith
+
+pub rises : (k : Kind) {a b : ℕ} → a ≤ b → pow k a ≤ pow k b
+rises square h = mul-le-mul h h
+rises cube h = mul-le-mul (mul-le-mul h h) h
+
+-- the power of a is below that of b, so a is below b
+pub below : (k : Kind) (a b : ℕ) → pow k a < pow k b → a < b
+below k a b h = lt-of-not-le (λ (g : b ≤ a). lt-irrefl (pow k a) (lt-of-lt-of-le h (rises k g)))

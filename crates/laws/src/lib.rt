@@ -1,0 +1,1 @@
+// Theorems over kind and width, in proofs/. There is no code here.

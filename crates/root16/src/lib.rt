@@ -1,0 +1,2 @@
+// Roots of a u16.
+mod fix;

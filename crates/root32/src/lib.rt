@@ -1,0 +1,2 @@
+// Roots of a u32.
+mod fix;

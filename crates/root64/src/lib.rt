@@ -1,0 +1,2 @@
+// Roots of a u64.
+mod fix;

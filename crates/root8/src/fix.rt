@@ -1,0 +1,50 @@
+// The fix-up at 8 bits: from a start at or below the root to the root by ones, with the remainder
+// and the gap to the next power carried along.
+ghost use Prim.Native.Nat.{_≤_};
+ghost use Rattle.defs.specs.Kinds.{square, cube, pow};
+ghost use Rattle.defs.specs.Answers.{Fixed};
+
+pub(crate) struct Fixed8 {
+    pub(crate) root: u8,
+    pub(crate) rest: u8,
+    pub(crate) steps: u8,
+}
+
+pub(crate) fn fix_sqrt_error8(n: u8, start: u8) -> Fixed8
+    requires { ⌜ pow square start ≤ n ⌝ }
+    ensures { λ r. ⌜ Fixed square n start (r .root) (r .rest) (r .steps) ⌝ }
+{
+    let mut s = start;
+    let mut e = n - start * start;
+    let mut gap = 2 * start + 1;
+    while e >= gap {
+        s += 1;
+        e -= gap;
+        gap += 2;
+    }
+    Fixed8 {
+        root: s,
+        rest: e,
+        steps: s - start,
+    }
+}
+
+pub(crate) fn fix_cbrt_error8(n: u8, start: u8) -> Fixed8
+    requires { ⌜ pow cube start ≤ n ⌝ }
+    ensures { λ r. ⌜ Fixed cube n start (r .root) (r .rest) (r .steps) ⌝ }
+{
+    let mut c = start;
+    let cc = start * start;
+    let mut e = n - cc * start;
+    let mut gap = 3 * (cc + start) + 1;
+    while e >= gap {
+        c += 1;
+        e -= gap;
+        gap += 6 * c;
+    }
+    Fixed8 {
+        root: c,
+        rest: e,
+        steps: c - start,
+    }
+}

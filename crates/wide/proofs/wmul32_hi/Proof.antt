@@ -1,0 +1,13 @@
+-- `wide::wmul32_hi` meets its contract: the law of products, at 32 bits. Assumes nothing.
+use borrow.Author.Needs.{needs}
+use Rattle.laws.proofs.Products.{product-below, high-fits}
+use Rattle.wide.proofs.wmul32_hi.Statement.{statement}
+use Rattle.wide.proofs.wmul32_hi.Tie as tie
+
+pub wmul32-hi-spec : {M : Type 1} → statement M
+wmul32-hi-spec =
+    tie.close
+    (tie.spec
+    (λ c. record { fits = product-below 32 (c .fits .a .fits) (c .fits .b .fits) })
+    (λ c. record { fits = high-fits 32 (c .fits .a .fits) (c .fits .b .fits) })
+    (λ c. search needs))
