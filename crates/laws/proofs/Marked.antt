@@ -7,7 +7,12 @@ use lib.Count.{leadingZeros}
 use Rattle.defs.specs.Kinds.{Kind, Width}
 use Rattle.defs.specs.Roots.{RootRem, rootOf, rootWithin, restOf}
 use Rattle.defs.specs.Tables.{rsqrtTab, rcbrtTab}
-use Rattle.defs.specs.Starts.{square16, cube16, square32, cube32, square64, cube64, start8}
+use Rattle.defs.specs.Starts.{start8}
+use Rattle.defs.specs.Starts.Square16 as sq16
+use Rattle.defs.specs.Starts.Cube16 as cb16
+use Rattle.defs.specs.Starts.Square32 as sq32
+use Rattle.defs.specs.Starts.Cube32 as cb32
+use Rattle.defs.specs.Starts.Cube64 as cb64
 use Rattle.defs.specs.Cells.{startOf, stepsOf, shiftOf, raised, fullStart, fullSteps}
 use Rattle.defs.specs.Answers.{Full}
 use Rattle.defs.specs.Marked.{Row, rows}
@@ -37,7 +42,7 @@ holds r t =
     record { root-rem = subst₂ (RootRem k n) (sym (a .0)) (sym (a .1)) (answer-is k n); is-start = b .0; is-steps = b .1 }
 
 tested : T (all (λ r. both (roots r) (bill r)) rows)
-unfolding rows roots bill rootOf rootWithin restOf rsqrtTab rcbrtTab square16 cube16 square32 cube32 square64 cube64 start8 startOf stepsOf shiftOf raised fullStart fullSteps leadingZeros
+unfolding rows roots bill rootOf rootWithin restOf rsqrtTab rcbrtTab start8 sq16.r sq16.S cb16.top cb16.q cb16.d cb16.r cb16.S sq32.h sq32.p sq32.r sq32.a sq32.S cb32.top cb32.g cb32.p cb32.t cb32.y cb32.r cb32.S cb64.top cb64.g cb64.p cb64.x cb64.t cb64.y cb64.r cb64.S startOf stepsOf shiftOf raised fullStart fullSteps leadingZeros
 tested = tt
 
 pub marked : All Holds rows

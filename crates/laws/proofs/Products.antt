@@ -3,7 +3,7 @@ use mathlib.Core.Path.{_≡_, subst}
 use Prim.Native.Nat.{ℕ, _+_, _*_, _/_, _^_, _<_}
 use native.Mathlib.Nat.{le-of-lt, lt-of-le-of-lt, mul-le-mul-left, mul-lt-mul-of-pos-right, div-lt-iff-lt-mul}
 use lib.Pow.{pow-pos}
-use Rattle.defs.specs.Starts.{hi}
+use Rattle.defs.specs.Starts.Letters.{hi}
 
 pub product-below : (w : ℕ) {a b : ℕ} → a < 2 ^ w → b < 2 ^ w → a * b < 2 ^ w * 2 ^ w
 product-below w {a} {b} ha hb = lt-of-le-of-lt (mul-le-mul-left a (le-of-lt hb)) (mul-lt-mul-of-pos-right ha (pow-pos w))

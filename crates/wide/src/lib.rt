@@ -1,7 +1,7 @@
 // Products of two words by their high half, and the doubling that stops at the top.
 ghost use mathlib.Core.Path.{_≡_};
 ghost use Prim.Native.Nat.{_*_, min};
-ghost use Rattle.defs.specs.Starts.{hi};
+ghost use Rattle.defs.specs.Starts.Letters.{hi};
 
 // The high half of the product of two u16.
 pub fn wmul16_hi(a: u16, b: u16) -> u16

@@ -1,0 +1,1 @@
+// Theorems on the starts S, in proofs/. There is no code here.
