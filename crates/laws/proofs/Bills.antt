@@ -31,7 +31,7 @@ unfolding fullStart fullSteps
 full-zero k w {n} e = record {
   root-rem = record { is-root = root-of-zero k n e; is-rest = omega arith };
   is-start = rw (eq-eqb n 0 e);
-  is-steps = rw (eq-eqb n 0 e)
+  is-steps = rw (eq-eqb n 0 e);
 }
 
 -- any other value answers with the start of the value brought to its top bits, and the steps from there to its root
@@ -41,7 +41,7 @@ unfolding fullStart fullSteps stepsOf
 full-raised k w {n} {root} {rest} {start} {steps} p answer e counted = record {
   root-rem = answer;
   is-start = rw (ne-eqb n 0 p) e;
-  is-steps = rw (ne-eqb n 0 p) (omega arith)
+  is-steps = rw (ne-eqb n 0 p) (omega arith);
 }
 
 -- the u8 bill: a search from 0 answers with its root for a start, and no steps
@@ -58,13 +58,14 @@ billed-8 k {n} {root} {rest} f = by-test (eqb n 0) refl
   where
     is-root : root ≡ rootOf k n
     is-root = one-root k (f .root-rem .is-root) (root-is k n)
+
     by-test : (t : Bool) → eqb n 0 ≡ t → Full k u8 n root rest root 0
     by-test true e =
         let z = full-zero k u8 (eqb-true n 0 e) in
         record {
           root-rem = f .root-rem;
           is-start = one-answer k (f .root-rem) (z .root-rem) .0 ∙ z .is-start;
-          is-steps = z .is-steps
+          is-steps = z .is-steps;
         }
     by-test false e =
         full-raised k u8 (eqb-false n 0 e) (f .root-rem) (rw (raised-8 k n, started-8 k n) is-root)

@@ -38,14 +38,14 @@ goes-on {k} {w} {n} {start} {s} {left} {next} at h = record {
   in-width = at .in-width;
   passed = omega arith;
   leaves = omega (arith, next-power k s);
-  is-gap = rw (at .is-gap) (gap-widens k s)
+  is-gap = rw (at .is-gap) (gap-widens k s);
 }
 
 pub ends : {k : Kind} {w : Width} {n start s left next : ℕ} → Walk k w n start s left next → left < next →
     Fixed k n start s left (s - start)
 ends {k} {w} {n} {start} {s} {left} {next} at h = record {
   root-rem = record { is-root = is-root k (omega arith) (omega (arith, next-power k s)); is-rest = omega arith };
-  counted = omega arith
+  counted = omega arith;
 }
 
 -- from 4 on a gap is at most its power, and below it is small: it fits wherever the power's value does

@@ -15,7 +15,7 @@ use Rattle.laws.proofs.Powers.{below}
 pub is-root : (k : Kind) {n a : ℕ} → pow k a ≤ n → n < pow k (a + 1) → IsRoot k n a
 is-root k {n} {a} low high = record {
   fits = low;
-  greatest = λ b h. let l : b < a + 1 = below k b (a + 1) (lt-of-le-of-lt h high) in omega arith
+  greatest = λ b h. let l : b < a + 1 = below k b (a + 1) (lt-of-le-of-lt h high) in omega arith;
 }
 
 pub root-above : (k : Kind) {n a : ℕ} → IsRoot k n a → n < pow k (a + 1)
@@ -64,6 +64,7 @@ root-within k (suc fuel) n h = by-test (eqb n 0) refl (λ p. root-within k fuel 
   where
     a : ℕ
     a = rootWithin k fuel (n / 2 ^ degree k)
+
     by-test : (t : Bool) → eqb n 0 ≡ t → ((n ≡ 0 → ⊥) → IsRoot k (n / 2 ^ degree k) a) →
         IsRoot k n (elim t [ true ↦ 0 | false ↦ oneMore k n (2 * a) ])
     by-test true e inner = root-of-zero k n (eqb-true n 0 e)

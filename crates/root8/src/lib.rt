@@ -5,7 +5,10 @@ ghost use Rattle.defs.specs.Roots.{IsRoot};
 ghost use Rattle.defs.specs.Answers.{Fixed, Full};
 
 mod fix;
-use fix::{Fixed8, fix_cbrt_error8, fix_sqrt_error8};
+
+use fix::Fixed8;
+use fix::fix_cbrt_error8;
+use fix::fix_sqrt_error8;
 
 // What a full call answers: root and rest, and where its fix-up started and how many steps it took.
 pub struct RootRem8 {

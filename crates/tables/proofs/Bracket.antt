@@ -29,5 +29,5 @@ bracketed k i h =
     let t = at-each (in-bracket k) (tableOf k) (tested k) i h in
     record {
       below = leb→le _ _ (both-left (below k i e) (above k i e) t);
-      above = leb→le _ _ (both-right (below k i e) (above k i e) t)
+      above = leb→le _ _ (both-right (below k i e) (above k i e) t);
     }
