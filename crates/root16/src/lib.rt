@@ -1,2 +1,3 @@
 // Roots of a u16.
 mod fix;
+mod start;

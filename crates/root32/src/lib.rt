@@ -1,2 +1,3 @@
 // Roots of a u32.
 mod fix;
+mod start;

@@ -1,2 +1,3 @@
 // Roots of a u64.
 mod fix;
+mod start;

@@ -1,0 +1,44 @@
+-- `root32::start::start_sqrt32` meets its contract: it is S of the scope document, letter by letter. Assumes nothing.
+use native.Mathlib.Omega.{arith}
+use borrow.Author.Needs.{needs}
+use Rattle.defs.specs.Starts.Square32.{S}
+use Rattle.starts.proofs.Square32.{Safe, safe}
+use Rattle.root32.proofs.start.start_sqrt32.Statement.{statement}
+use Rattle.root32.proofs.start.start_sqrt32.Tie as tie
+
+-- what is safe of the value
+safe-at : (c : tie.Start) → Safe (c .args .n)
+safe-at c = safe (c .args .n) (c .pre) (c .fits .n .fits)
+
+mul-e : tie.Need-mul-e
+mul-e c =
+    let s = c .before .before in
+    rw (c .near-sqrt32 .ensures) (omega (arith, safe-at s .square-fits, s .fits .n .fits))
+
+sub-e : tie.Need-sub-e
+sub-e c = rw (c .near-sqrt32 .ensures) (safe-at (c .before .before) .square-fits)
+
+add-result : tie.Need-add-result
+unfolding S
+add-result c =
+    rw (c .wmul16-hi .ensures, c .before .near-sqrt32 .ensures, c .before .before .rsqrt32 .ensures)
+    (record { fits = safe-at (c .before .before .before) .S-fits })
+
+returns : tie.Need-returns
+unfolding S
+returns c = rw (c .wmul16-hi .ensures, c .before .near-sqrt32 .ensures, c .before .before .rsqrt32 .ensures)
+
+pub start-sqrt32-spec : {M : Type 1} → statement M
+start-sqrt32-spec =
+    tie.close
+    (tie.spec
+    (λ c κs. search needs)
+    (λ c κs. search needs)
+    (λ c. search needs)
+    (λ c. search needs)
+    mul-e
+    sub-e
+    (λ c. search needs)
+    (λ c κs. search needs)
+    add-result
+    returns)
