@@ -13,13 +13,6 @@ use Rattle.laws.proofs.Roots.{one-root, root-is}
 use Rattle.starts.specs.Cell.{IsNormal}
 use Rattle.starts.proofs.Cells.{cells}
 
--- a value below the bound is refused
-pub refuses : (k : Kind) (w : Width) {n : ℕ} → n < bound k w → Normalised k w n 1 0 0 0 0
-refuses k w {n} low = record {
-  below-bound = λ h. record { is-number = refl; no-root = refl; no-rest = refl; no-start = refl; no-steps = refl };
-  from-bound = λ h. absurd (lt-irrefl n (lt-of-lt-of-le low h));
-}
-
 -- S is a start that the fix-up can be handed
 pub startable : (k : Kind) (w : Width) {n start : ℕ} → IsNormal k w n → start ≡ S k w n → pow k start ≤ n
 startable k w {n} h e = rw e (cells k w .near n h .low)

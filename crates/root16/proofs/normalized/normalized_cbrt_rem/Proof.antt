@@ -1,0 +1,20 @@
+-- `root16::normalized::normalized_cbrt_rem` meets its contract: the cell of cubes at 16 bits. Assumes nothing.
+use borrow.Author.Needs.{needs}
+use Rattle.defs.specs.Kinds.{cube, u16}
+use Rattle.starts.specs.Cell.{IsNormal}
+use Rattle.starts.proofs.Calls.{startable, answers}
+use Rattle.root16.proofs.normalized.normalized_cbrt_rem.Statement.{statement}
+use Rattle.root16.proofs.normalized.normalized_cbrt_rem.Tie as tie
+
+-- past the test the value is normalised
+normal : (c : tie.Else1) → IsNormal cube u16 (c .before .args .n)
+normal c = record { from-bound = c .if1 .left; in-width = c .before .fits .n .fits }
+
+pub normalized-cbrt-rem-spec : {M : Type 1} → statement M
+normalized-cbrt-rem-spec =
+    tie.close
+    (tie.spec
+    (λ c. search needs)
+    (λ c κs. search needs)
+    (λ c κs. startable cube u16 (normal (c .before)) (c .start-cbrt16 .ensures))
+    (λ c. answers cube u16 (normal (c .before .before)) (c .before .start-cbrt16 .ensures) (c .fix-cbrt-error16 .ensures)))
