@@ -1,9 +1,10 @@
 -- What the calls answer, for every value: the promises that the contracts cite.
 use mathlib.Core.Path.{_≡_}
-use Prim.Native.Nat.{ℕ, _+_, _≤_, _<_}
-use Rattle.defs.specs.Kinds.{Kind, Width}
-use Rattle.defs.specs.Roots.{RootRem}
-use Rattle.defs.specs.Cells.{bound, ceiling, startOf, stepsOf, fullStart, fullSteps}
+use mathlib.Core.Bool.{Bool, false}
+use Prim.Native.Nat.{ℕ, _+_, _-_, _≤_, _<_}
+use Rattle.defs.specs.Kinds.{Kind, Width, pow}
+use Rattle.defs.specs.Roots.{IsRoot, RootRem}
+use Rattle.defs.specs.Cells.{bound, ceiling, startOf, stepsOf, raised, fullStart, fullSteps}
 use Rattle.defs.specs.Refusals.{answered, notNormalised}
 
 -- a full call: root and rest of n, and the start and the steps of its normalised call, unshifted
@@ -37,3 +38,11 @@ pub record Normalised (k : Kind) (w : Width) (n refusal root rest start steps : 
 pub record Fixed (k : Kind) (n start root rest steps : ℕ) : Type 0 where
   pub root-rem : RootRem k n root rest
   pub counted : start + steps ≡ root
+
+-- a full call before its rest is settled: the root, shifted back, beside rest, start and steps of the value brought to its top bits.
+-- Where nothing was shifted that rest is the value's own
+pub record Brought (k : Kind) (w : Width) (n : ℕ) (shifted : Bool) (root rest start steps : ℕ) : Type 0 where
+  pub is-root : IsRoot k n root
+  pub own-rest : shifted ≡ false → rest ≡ n - pow k root
+  pub is-start : start ≡ startOf k w (raised k w n)
+  pub is-steps : steps ≡ stepsOf k w (raised k w n)

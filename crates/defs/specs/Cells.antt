@@ -1,6 +1,6 @@
 -- The tables by kind and width, and what a normalised call starts from and pays.
 use mathlib.Core.Bool.{cond}
-use Prim.Native.Nat.{ℕ, _*_, _-_, _%_, _^_}
+use Prim.Native.Nat.{ℕ, _*_, _-_, _%_, _^_, _≤_, _<_}
 use lib.Dec.{leb, eqb}
 use lib.Count.{leadingZeros}
 use Rattle.defs.specs.Kinds.{Kind, square, cube, Width, u8, u16, u32, u64, pow, degree, bitsOf}
@@ -16,6 +16,11 @@ bound square u64 = 2 ^ 62
 bound cube u16 = 2 ^ 13
 bound cube u32 = 2 ^ 29
 bound cube u64 = 2 ^ 61
+
+-- n is a normalised value of the kind and width
+pub record IsNormal (k : Kind) (w : Width) (n : ℕ) : Type 0 where
+  pub from-bound : bound k w ≤ n
+  pub in-width : n < 2 ^ bitsOf w
 
 -- the most steps that a fix-up takes from the start
 abbrev pub ceiling : Kind → Width → ℕ

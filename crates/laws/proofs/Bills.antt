@@ -34,14 +34,14 @@ full-zero k w {n} e = record {
   is-steps = rw (eq-eqb n 0 e);
 }
 
--- any other value answers with the start of the value brought to its top bits, and the steps from there to its root
+-- any other value answers with the start and the steps of the value brought to its top bits
 pub full-raised : (k : Kind) (w : Width) {n root rest start steps : ℕ} → (n ≡ 0 → ⊥) → RootRem k n root rest →
-    start ≡ startOf k w (raised k w n) → start + steps ≡ rootOf k (raised k w n) → Full k w n root rest start steps
-unfolding fullStart fullSteps stepsOf
-full-raised k w {n} {root} {rest} {start} {steps} p answer e counted = record {
+    start ≡ startOf k w (raised k w n) → steps ≡ stepsOf k w (raised k w n) → Full k w n root rest start steps
+unfolding fullStart fullSteps
+full-raised k w {n} p answer started stepped = record {
   root-rem = answer;
-  is-start = rw (ne-eqb n 0 p) e;
-  is-steps = rw (ne-eqb n 0 p) (omega arith);
+  is-start = rw (ne-eqb n 0 p) started;
+  is-steps = rw (ne-eqb n 0 p) stepped;
 }
 
 -- the u8 bill: a search from 0 answers with its root for a start, and no steps
@@ -53,12 +53,13 @@ started-8 : (k : Kind) (n : ℕ) → startOf k u8 n ≡ rootOf k n
 unfolding start8
 started-8 k n = not-lowered k u8 n (root-is k n .fits)
 
+stepped-8 : (k : Kind) (n : ℕ) → stepsOf k u8 n ≡ 0
+unfolding stepsOf
+stepped-8 k n = omega (arith, started-8 k n)
+
 pub billed-8 : (k : Kind) {n root rest steps : ℕ} → Fixed k n 0 root rest steps → Full k u8 n root rest root 0
 billed-8 k {n} {root} {rest} f = by-test (eqb n 0) refl
   where
-    is-root : root ≡ rootOf k n
-    is-root = one-root k (f .root-rem .is-root) (root-is k n)
-
     by-test : (t : Bool) → eqb n 0 ≡ t → Full k u8 n root rest root 0
     by-test true e =
         let z = full-zero k u8 (eqb-true n 0 e) in
@@ -68,5 +69,6 @@ billed-8 k {n} {root} {rest} f = by-test (eqb n 0) refl
           is-steps = z .is-steps;
         }
     by-test false e =
-        full-raised k u8 (eqb-false n 0 e) (f .root-rem) (rw (raised-8 k n, started-8 k n) is-root)
-        (rw (raised-8 k n) (omega (arith, is-root)))
+        full-raised k u8 (eqb-false n 0 e) (f .root-rem)
+        (rw (raised-8 k n, started-8 k n) (one-root k (f .root-rem .is-root) (root-is k n)))
+        (rw (raised-8 k n, stepped-8 k n))

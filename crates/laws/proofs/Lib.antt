@@ -2,6 +2,8 @@ pub mod Powers
 pub mod Roots
 pub mod FixUp
 pub mod Bills
+pub mod Shift
+pub mod Full
 pub mod Products
 pub mod Sweeps
 pub mod Marked

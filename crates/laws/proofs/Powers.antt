@@ -1,8 +1,7 @@
 -- Powers over the kind: they rise, and the gap from one to the next is what a fix-up step takes off. Assumes nothing.
 use mathlib.Core.Path.{_≡_}
-use Prim.Native.Nat.{ℕ, suc, _+_, _*_, _≤_, _<_}
-use native.Mathlib.Nat.{mul-le-mul, lt-of-not-le, lt-of-lt-of-le, lt-irrefl, le-of-suc-le-suc}
-use native.Mathlib.Numerals.{add-one}
+use Prim.Native.Nat.{ℕ, zero, suc, _+_, _*_, _≤_, _<_, zero-le}
+use native.Mathlib.Nat.{mul-le-mul, lt-of-not-le, lt-of-lt-of-le, lt-irrefl, le-refl, le-mul-of-pos-right, zero-lt-suc}
 use native.Mathlib.Omega.{arith}
 use Rattle.defs.specs.Kinds.{Kind, square, cube, pow}
 
@@ -22,3 +21,9 @@ rises cube h = mul-le-mul (mul-le-mul h h) h
 -- the power of a is below that of b, so a is below b
 pub below : (k : Kind) (a b : ℕ) → pow k a < pow k b → a < b
 below k a b h = lt-of-not-le (λ (g : b ≤ a). lt-irrefl (pow k a) (lt-of-lt-of-le h (rises k g)))
+
+-- a square is at most the power
+pub square-most : (k : Kind) (s : ℕ) → s * s ≤ pow k s
+square-most square s = le-refl (s * s)
+square-most cube zero = zero-le
+square-most cube (suc s) = le-mul-of-pos-right (suc s * suc s) (zero-lt-suc s)

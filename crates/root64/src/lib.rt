@@ -1,8 +1,14 @@
 // Roots of a u64.
 mod fix;
+mod full;
 mod normalized;
 mod start;
 
+pub use full::RootRem64;
+pub use full::cbrt;
+pub use full::cbrt_rem;
+pub use full::sqrt;
+pub use full::sqrt_rem;
 pub use normalized::NormalizedRootRem64;
 pub use normalized::normalized_cbrt_rem;
 pub use normalized::normalized_sqrt_rem;

@@ -6,11 +6,10 @@ use native.Mathlib.Omega.{arith}
 use Rattle.defs.specs.Kinds.{Kind, Width, pow}
 use Rattle.defs.specs.Roots.{rootOf}
 use Rattle.defs.specs.Starts.{S}
-use Rattle.defs.specs.Cells.{bound, ceiling, stepsOf}
+use Rattle.defs.specs.Cells.{IsNormal, ceiling, stepsOf}
 use Rattle.defs.specs.Answers.{Fixed, Normal, Normalised}
 use Rattle.laws.proofs.Powers.{below}
 use Rattle.laws.proofs.Roots.{one-root, root-is}
-use Rattle.starts.specs.Cell.{IsNormal}
 use Rattle.starts.proofs.Cells.{cells}
 
 -- S is a start that the fix-up can be handed

@@ -13,11 +13,11 @@ use Rattle.defs.specs.Starts.Square32 as sq32
 use Rattle.defs.specs.Starts.Cube32 as cb32
 use Rattle.defs.specs.Starts.Square64 as sq64
 use Rattle.defs.specs.Starts.Cube64 as cb64
-use Rattle.defs.specs.Cells.{bound, ceiling, startOf, stepsOf}
+use Rattle.defs.specs.Cells.{IsNormal, ceiling, startOf, stepsOf}
 use Rattle.laws.proofs.Roots.{root-is, root-above}
 use Rattle.laws.proofs.Bills.{not-lowered}
 use Rattle.starts.specs.Near.{Near}
-use Rattle.starts.specs.Cell.{IsNormal, witness, Cell}
+use Rattle.starts.specs.Cell.{witness, Cell}
 use Rattle.starts.proofs.Square16
 use Rattle.starts.proofs.Cube16
 use Rattle.starts.proofs.Square32

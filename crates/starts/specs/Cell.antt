@@ -1,15 +1,10 @@
 -- Demand 3 in one place: what holds at a cell, a kind and a width. That it holds at every cell is the theorem `cells` of proofs/Cells.antt.
 use mathlib.Core.Path.{_≡_}
-use Prim.Native.Nat.{ℕ, _^_, _≤_, _<_}
-use Rattle.defs.specs.Kinds.{Kind, square, cube, Width, u8, u16, u32, u64, bitsOf}
+use Prim.Native.Nat.{ℕ, _^_}
+use Rattle.defs.specs.Kinds.{Kind, square, cube, Width, u8, u16, u32, u64}
 use Rattle.defs.specs.Starts.{S}
-use Rattle.defs.specs.Cells.{bound, ceiling, startOf, stepsOf}
+use Rattle.defs.specs.Cells.{IsNormal, ceiling, startOf, stepsOf}
 use Rattle.starts.specs.Near.{Near}
-
--- n is a normalised value of the cell
-pub record IsNormal (k : Kind) (w : Width) (n : ℕ) : Type 0 where
-  pub from-bound : bound k w ≤ n
-  pub in-width : n < 2 ^ bitsOf w
 
 -- a value whose fix-up takes as many steps as the ceiling allows
 abbrev pub witness : Kind → Width → ℕ

@@ -1,7 +1,7 @@
 -- `root16::normalized::normalized_sqrt_rem` meets its contract: the cell of squares at 16 bits. Assumes nothing.
 use borrow.Author.Needs.{needs}
 use Rattle.defs.specs.Kinds.{square, u16}
-use Rattle.starts.specs.Cell.{IsNormal}
+use Rattle.defs.specs.Cells.{IsNormal}
 use Rattle.starts.proofs.Calls.{startable, answers}
 use Rattle.root16.proofs.normalized.normalized_sqrt_rem.Statement.{statement}
 use Rattle.root16.proofs.normalized.normalized_sqrt_rem.Tie as tie

@@ -1,7 +1,7 @@
 -- `root32::normalized::normalized_cbrt_rem` meets its contract: the cell of cubes at 32 bits. Assumes nothing.
 use borrow.Author.Needs.{needs}
 use Rattle.defs.specs.Kinds.{cube, u32}
-use Rattle.starts.specs.Cell.{IsNormal}
+use Rattle.defs.specs.Cells.{IsNormal}
 use Rattle.starts.proofs.Calls.{startable, answers}
 use Rattle.root32.proofs.normalized.normalized_cbrt_rem.Statement.{statement}
 use Rattle.root32.proofs.normalized.normalized_cbrt_rem.Tie as tie

@@ -1,0 +1,122 @@
+-- Bringing a value to its top bits, and its root back: left by a multiple of the degree, right by that many bits. Assumes nothing.
+use mathlib.Core.Path.{_≡_, refl, sym, ap, _∙_}
+use Prim.Native.Nat.{ℕ, suc, _+_, _*_, _-_, _/_, _%_, _^_, _≤_, _<_}
+use native.Mathlib.Nat.{le-trans, lt-of-lt-of-le, le-of-eq, mul-le-mul-right, le-of-mul-le-mul-right, lt-of-mul-lt-mul-right, div-mul-le-self, lt-div-mul-add, mod-lt, mod-eq-of-lt, div-add-mod, mul-div-right}
+use native.Mathlib.Omega.{arith}
+use lib.Dec.{lit≤, lit<}
+use lib.Count.{leadingZeros, leading-top}
+use lib.Pow.{pow-pos, pow-add, pow-mono, shl-lt}
+use Rattle.defs.specs.Kinds.{Kind, square, cube, Width, u8, u16, u32, u64, pow, degree, bitsOf, rootBits}
+use Rattle.defs.specs.Roots.{IsRoot}
+use Rattle.defs.specs.Cells.{IsNormal, bound, lowered, shiftOf, raised}
+use Rattle.laws.proofs.Powers.{rises}
+use Rattle.laws.proofs.Roots.{is-root, root-above}
+
+-- the power of a product, and of a power of two
+pow-product : (k : Kind) (a b : ℕ) → pow k (a * b) ≡ pow k a * pow k b
+pow-product square a b = omega arith
+pow-product cube a b = omega arith
+
+pow-two : (k : Kind) (j : ℕ) → pow k (2 ^ j) ≡ 2 ^ (degree k * j)
+pow-two square j = sym (pow-add 2 j j) ∙ ap (λ (m : ℕ). 2 ^ m) (omega arith)
+pow-two cube j = ap (λ (m : ℕ). m * 2 ^ j) (sym (pow-add 2 j j)) ∙ sym (pow-add 2 (j + j) j) ∙ ap (λ (m : ℕ). 2 ^ m) (omega arith)
+
+-- the root of n times the power of d, divided by d, is the root of n
+root-divided : (k : Kind) (n d a : ℕ) → 0 < d → 0 < pow k d → IsRoot k (n * pow k d) a → IsRoot k n (a / d)
+root-divided k n d a pos pos-power r =
+    let low : pow k (a / d) * pow k d ≤ n * pow k d = rw (← (pow-product k (a / d) d)) (le-trans (rises k (div-mul-le-self a d)) (r .fits)) in
+    let next : a + 1 ≤ (a / d + 1) * d = omega (arith, lt-div-mul-add {a = a} {b = d} pos) in
+    let high : n * pow k d < pow k (a / d + 1) * pow k d = rw (← (pow-product k (a / d + 1) d)) (lt-of-lt-of-le (root-above k r) (rises k next)) in
+    is-root k (le-of-mul-le-mul-right low pos-power) (lt-of-mul-lt-mul-right (pow k d) high)
+
+pub root-back : (k : Kind) (n j a : ℕ) → IsRoot k (n * 2 ^ (degree k * j)) a → IsRoot k n (a / 2 ^ j)
+root-back k n j a r =
+    root-divided k n (2 ^ j) a (pow-pos j) (rw (pow-two k j) (pow-pos (degree k * j))) (rw (pow-two k j) r)
+
+-- a value below 2^b that is not 0, shifted left by its leading zeros lowered to a multiple of d, has one of its top d bits set
+record Lifted (d b n s : ℕ) : Type 0 where
+  topped : 2 ^ (b - d) ≤ n * 2 ^ s
+  kept : n * 2 ^ s < 2 ^ b
+  short : s < b
+
+lift : (d b n : ℕ) → 0 < d → d ≤ b → 0 < n → n < 2 ^ b → Lifted d b n (lowered d (leadingZeros b n))
+lift d b n pos room p h =
+    let t = leading-top b n p h in
+    let z : ℕ = leadingZeros b n in
+    let s : ℕ = lowered d z in
+    let off : z % d < d = mod-lt z pos in
+    record {
+      topped = le-trans (pow-mono (omega (arith, t .1, off))) (le-trans (le-of-eq (pow-add 2 (t .0) s)) (mul-le-mul-right (2 ^ s) (t .2)));
+      kept = lt-of-lt-of-le (shl-lt {a = n} (suc (t .0)) s (t .3)) (pow-mono (omega (arith, t .1)));
+      short = omega (arith, t .1);
+    }
+
+-- the widths above u8, which are brought to their top bits
+abbrev pub Wide : Width → Type 0
+Wide u8 = ⊥
+Wide u16 = Unit {0}
+Wide u32 = Unit {0}
+Wide u64 = Unit {0}
+
+degree-small : (k : Kind) → (0 < degree k) × (degree k ≤ 3)
+degree-small square = (lit< tt, lit≤ tt)
+degree-small cube = (lit< tt, lit≤ tt)
+
+lifted : (k : Kind) (w : Width) → Wide w → (n : ℕ) → 0 < n → n < 2 ^ bitsOf w → Lifted (degree k) (bitsOf w) n (shiftOf k w n)
+unfolding shiftOf
+lifted k u16 v n p h = lift (degree k) 16 n (degree-small k .0) (omega (arith, degree-small k .1)) p h
+lifted k u32 v n p h = lift (degree k) 32 n (degree-small k .0) (omega (arith, degree-small k .1)) p h
+lifted k u64 v n p h = lift (degree k) 64 n (degree-small k .0) (omega (arith, degree-small k .1)) p h
+
+bound-is : (k : Kind) (w : Width) → Wide w → 2 ^ (bitsOf w - degree k) ≡ bound k w
+bound-is square u16 v = refl
+bound-is square u32 v = refl
+bound-is square u64 v = refl
+bound-is cube u16 v = refl
+bound-is cube u32 v = refl
+bound-is cube u64 v = refl
+
+-- the shift is a multiple of the degree, and taken off the root it stays within the root's bits
+multiple : (d m : ℕ) → 0 < d → d * (lowered d m / d) ≡ lowered d m
+multiple d m pos =
+    let l : lowered d m ≡ d * (m / d) = omega (arith, div-add-mod m d) in
+    rw (l, mul-div-right (m / d) pos)
+
+shift-multiple : (k : Kind) (w : Width) (n : ℕ) → degree k * (shiftOf k w n / degree k) ≡ shiftOf k w n
+unfolding shiftOf
+shift-multiple square u8 n = refl
+shift-multiple cube u8 n = refl
+shift-multiple k u16 n = multiple (degree k) (leadingZeros 16 n) (degree-small k .0)
+shift-multiple k u32 n = multiple (degree k) (leadingZeros 32 n) (degree-small k .0)
+shift-multiple k u64 n = multiple (degree k) (leadingZeros 64 n) (degree-small k .0)
+
+half-of-bits : (k : Kind) (w : Width) (s : ℕ) → Wide w → s < bitsOf w → s / degree k < rootBits w
+half-of-bits square u16 s v h = omega arith
+half-of-bits square u32 s v h = omega arith
+half-of-bits square u64 s v h = omega arith
+half-of-bits cube u16 s v h = omega arith
+half-of-bits cube u32 s v h = omega arith
+half-of-bits cube u64 s v h = omega arith
+
+-- what a full call knows once it has the shift of a value that is not 0
+pub record Shifted (k : Kind) (w : Width) (n : ℕ) : Type 0 where
+  pub shift-fits : shiftOf k w n < bitsOf w
+  pub back-fits : shiftOf k w n / degree k < rootBits w
+  pub raises : (n * 2 ^ shiftOf k w n) % 2 ^ bitsOf w ≡ raised k w n
+  pub is-normal : IsNormal k w (raised k w n)
+
+pub shifted : (k : Kind) (w : Width) → Wide w → {n : ℕ} → 0 < n → n < 2 ^ bitsOf w → Shifted k w n
+unfolding raised
+shifted k w v {n} p h =
+    let l = lifted k w v n p h in
+    record {
+      shift-fits = l .short;
+      back-fits = half-of-bits k w (shiftOf k w n) v (l .short);
+      raises = mod-eq-of-lt (l .kept);
+      is-normal = record { from-bound = rw (← (bound-is k w v)) (l .topped); in-width = l .kept };
+    }
+
+-- the root of the value brought to its top bits, shifted back, is the value's root
+pub root-shifted-back : (k : Kind) (w : Width) {n a : ℕ} → IsRoot k (raised k w n) a → IsRoot k n (a / 2 ^ (shiftOf k w n / degree k))
+unfolding raised
+root-shifted-back k w {n} {a} r = root-back k n (shiftOf k w n / degree k) a (rw (shift-multiple k w n) r)
