@@ -7,3 +7,4 @@ pub mod Cells
 pub mod Answers
 pub mod Refusals
 pub mod Marked
+pub mod Rebuild

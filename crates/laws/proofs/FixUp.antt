@@ -1,15 +1,14 @@
 -- The fix-up, one fact over the kind's power and the width: it begins, goes on, ends at the root, and nothing in it overflows.
 -- Each width and kind cites it. Assumes nothing.
 use mathlib.Core.Path.{_≡_, refl}
-use mathlib.Core.Bool.{Bool, true, false}
+use mathlib.Core.Logic.{_⊎_, inl, inr}
 use Prim.Native.Nat.{ℕ, _+_, _*_, _-_, _^_, _≤_, _<_}
 use native.Mathlib.Nat.{mul-le-mul, mul-le-mul-left, le-trans, lt-of-le-of-lt, lt-of-lt-of-le}
 use native.Mathlib.Omega.{arith}
-use lib.Dec.{lit≤, leb}
-use borrow.Author.Tests.{leb-true, leb-false}
+use lib.Dec.{lit≤}
 use Rattle.defs.specs.Kinds.{Kind, square, cube, pow, Width, u8, u16, u32, u64, bitsOf, rootBits}
 use Rattle.defs.specs.Answers.{Fixed}
-use Rattle.laws.proofs.Powers.{gap, next-power, below}
+use Rattle.laws.proofs.Powers.{le-or-lt, gap, next-power, below}
 use Rattle.laws.proofs.Roots.{is-root}
 
 -- where a fix-up from `start` stands: at s, with what the power of s leaves of n, and the gap to the next power
@@ -64,11 +63,11 @@ byte-or-more u32 = lit≤ tt
 byte-or-more u64 = lit≤ tt
 
 gap-fits : (k : Kind) (w : Width) (s n : ℕ) → pow k s ≤ n → n < 2 ^ bitsOf w → gap k s < 2 ^ bitsOf w
-gap-fits k w s n low high = by-size (leb 4 s) refl
+gap-fits k w s n low high = by-size (le-or-lt 4 s)
   where
-    by-size : (t : Bool) → leb 4 s ≡ t → gap k s < 2 ^ bitsOf w
-    by-size true e = lt-of-le-of-lt (le-trans (gap-below k s (leb-true 4 s e)) low) high
-    by-size false e = lt-of-lt-of-le (gap-small k s (omega (arith, leb-false 4 s e))) (byte-or-more w)
+    by-size : (4 ≤ s) ⊎ (s < 4) → gap k s < 2 ^ bitsOf w
+    by-size (inl h) = lt-of-le-of-lt (le-trans (gap-below k s h) low) high
+    by-size (inr h) = lt-of-lt-of-le (gap-small k s (omega arith)) (byte-or-more w)
 
 -- a root fits the type of the width's roots
 power-of-top : (k : Kind) (w : Width) → 2 ^ bitsOf w ≤ pow k (2 ^ rootBits w)

@@ -4,6 +4,7 @@ pub mod FixUp
 pub mod Bills
 pub mod Shift
 pub mod Full
+pub mod Rebuild
 pub mod Products
 pub mod Sweeps
 pub mod Marked

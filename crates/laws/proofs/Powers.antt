@@ -1,9 +1,21 @@
 -- Powers over the kind: they rise, and the gap from one to the next is what a fix-up step takes off. Assumes nothing.
-use mathlib.Core.Path.{_≡_}
+use mathlib.Core.Path.{_≡_, refl}
+use mathlib.Core.Bool.{Bool, true, false}
+use mathlib.Core.Logic.{_⊎_, inl, inr}
 use Prim.Native.Nat.{ℕ, zero, suc, _+_, _*_, _≤_, _<_, zero-le}
 use native.Mathlib.Nat.{mul-le-mul, lt-of-not-le, lt-of-lt-of-le, lt-irrefl, le-refl, le-mul-of-pos-right, zero-lt-suc}
 use native.Mathlib.Omega.{arith}
+use lib.Dec.{leb}
+use borrow.Author.Tests.{leb-true, leb-false}
 use Rattle.defs.specs.Kinds.{Kind, square, cube, pow}
+
+-- either way round: a test that goes by cases
+pub le-or-lt : (a b : ℕ) → (a ≤ b) ⊎ (b < a)
+le-or-lt a b = by-test (leb a b) refl
+  where
+    by-test : (t : Bool) → leb a b ≡ t → (a ≤ b) ⊎ (b < a)
+    by-test true e = inl (leb-true a b e)
+    by-test false e = inr (leb-false a b e)
 
 -- from the power of s to that of s + 1: the next odd number, or the next difference of cubes
 abbrev pub gap : Kind → ℕ → ℕ

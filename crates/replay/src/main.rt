@@ -24,6 +24,9 @@ fn agrees(run: Run, i: u64, f: Found) -> bool {
     if f.alone != run.root {
         return false;
     }
+    if !f.normalised {
+        return false;
+    }
     if f.rest != std::num::wrapping_add_u64(run.rest, i) {
         return false;
     }

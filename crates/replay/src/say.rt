@@ -65,5 +65,9 @@ pub(crate) fn difference(run: Run, i: u64, f: Found) {
     answer(f.root, f.rest, f.start, f.steps);
     io::write_all(1, b"root alone=");
     number(f.alone);
-    io::write_all(1, b"\n");
+    if f.normalised {
+        io::write_all(1, b" normalised=agrees\n");
+    } else {
+        io::write_all(1, b" normalised=differs\n");
+    }
 }

@@ -37,14 +37,14 @@ fn brought_sqrt16(n: u16) -> Brought16
 {
     let zeros = u16::leading_zeros(n);
     let shift = zeros - zeros % 2;
-    let top = normalized_sqrt_rem(n << shift);
-    let root = top.root >> (shift / 2);
+    let s = normalized_sqrt_rem(n << shift);
+    let root = s.root >> (shift / 2);
     Brought16 {
         shifted: shift != 0,
         root: root,
-        rest: top.rest,
-        start: top.start,
-        steps: top.steps,
+        rest: s.rest,
+        start: s.start,
+        steps: s.steps,
     }
 }
 
@@ -54,21 +54,21 @@ pub fn sqrt_rem(n: u16) -> RootRem16
     if n == 0 {
         return ZERO;
     }
-    let top = brought_sqrt16(n);
-    if !top.shifted {
+    let s = brought_sqrt16(n);
+    if !s.shifted {
         return RootRem16 {
-            root: top.root,
-            rest: top.rest,
-            start: top.start,
-            steps: top.steps,
+            root: s.root,
+            rest: s.rest,
+            start: s.start,
+            steps: s.steps,
         };
     }
-    let wide = top.root as u16;
+    let wide = s.root as u16;
     RootRem16 {
-        root: top.root,
+        root: s.root,
         rest: n - wide * wide,
-        start: top.start,
-        steps: top.steps,
+        start: s.start,
+        steps: s.steps,
     }
 }
 
@@ -88,14 +88,14 @@ fn brought_cbrt16(n: u16) -> Brought16
 {
     let zeros = u16::leading_zeros(n);
     let shift = zeros - zeros % 3;
-    let top = normalized_cbrt_rem(n << shift);
-    let root = top.root >> (shift / 3);
+    let c = normalized_cbrt_rem(n << shift);
+    let root = c.root >> (shift / 3);
     Brought16 {
         shifted: shift != 0,
         root: root,
-        rest: top.rest,
-        start: top.start,
-        steps: top.steps,
+        rest: c.rest,
+        start: c.start,
+        steps: c.steps,
     }
 }
 
@@ -105,21 +105,21 @@ pub fn cbrt_rem(n: u16) -> RootRem16
     if n == 0 {
         return ZERO;
     }
-    let top = brought_cbrt16(n);
-    if !top.shifted {
+    let c = brought_cbrt16(n);
+    if !c.shifted {
         return RootRem16 {
-            root: top.root,
-            rest: top.rest,
-            start: top.start,
-            steps: top.steps,
+            root: c.root,
+            rest: c.rest,
+            start: c.start,
+            steps: c.steps,
         };
     }
-    let wide = top.root as u16;
+    let wide = c.root as u16;
     RootRem16 {
-        root: top.root,
+        root: c.root,
         rest: n - wide * wide * wide,
-        start: top.start,
-        steps: top.steps,
+        start: c.start,
+        steps: c.steps,
     }
 }
 

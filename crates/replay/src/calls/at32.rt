@@ -1,0 +1,42 @@
+// The calls on a u32.
+use crate::calls::Found;
+use root32::NormalizedRootRem32;
+use root32::RootRem32;
+
+// The normalised call refuses with zeros below the bound, and from there on answers as the full call does.
+fn normalised(a: RootRem32, m: NormalizedRootRem32, normal: bool) -> bool {
+    if normal {
+        m.refusal == 0
+            && m.root == a.root
+            && m.rest == a.rest
+            && m.start == a.start
+            && m.steps == a.steps
+    } else {
+        m.refusal == 1 && m.root == 0 && m.rest == 0 && m.start == 0 && m.steps == 0
+    }
+}
+
+fn found(a: RootRem32, alone: u16, normalised: bool) -> Found {
+    Found {
+        known: true,
+        root: a.root as u64,
+        rest: a.rest as u64,
+        start: a.start as u64,
+        steps: a.steps as u64,
+        alone: alone as u64,
+        normalised: normalised,
+    }
+}
+
+pub(crate) fn call(degree: u64, value: u64) -> Found {
+    let n = (value % 4294967296) as u32;
+    if degree == 2 {
+        let a = root32::sqrt_rem(n);
+        let m = root32::normalized_sqrt_rem(n);
+        found(a, root32::sqrt(n), normalised(a, m, n >= 0x4000_0000))
+    } else {
+        let a = root32::cbrt_rem(n);
+        let m = root32::normalized_cbrt_rem(n);
+        found(a, root32::cbrt(n), normalised(a, m, n >= 0x2000_0000))
+    }
+}
