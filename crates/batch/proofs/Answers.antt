@@ -76,9 +76,11 @@ one-ran : {values before after after′ : List ℕ} {first budget done spent don
     Ran values before first budget done spent after → Ran values before first budget done′ spent′ after′ →
     (done ≡ done′) × (spent ≡ spent′) × (after ≡ after′)
 one-ran {values} {before} {after} {after′} {first} {budget} {done} {spent} {done′} {spent′} x y =
-    let same : done ≡ done′ = x .is-done ∙ sym (y .is-done) in
-    (same, x .is-spent ∙ ap (λ (k : ℕ). costs (take k values)) same ∙ sym (y .is-spent),
-      x .is-after ∙ ap (λ (k : ℕ). take first before ++ (map (rootOf square) (take k values) ++ drop (first + k) before)) same ∙ sym (y .is-after))
+    let same : done ≡ done′ = x .is-done ∙ sym (y .is-done) in (
+      same,
+      x .is-spent ∙ ap (λ (k : ℕ). costs (take k values)) same ∙ sym (y .is-spent),
+      x .is-after ∙ ap (λ (k : ℕ). take first before ++ (map (rootOf square) (take k values) ++ drop (first + k) before)) same ∙ sym (y .is-after),
+    )
 
 one-refused : {before after after′ : List ℕ} {done spent done′ spent′ : ℕ} → Refused before done spent after → Refused before done′ spent′ after′ →
     (done ≡ done′) × (spent ≡ spent′) × (after ≡ after′)

@@ -23,7 +23,13 @@ fn refused(number: u8) -> BatchAnswer
 }
 
 // The roots of `count` values from `first` on, written to the same places of `roots`, as far as the budget goes.
-pub fn sqrt_batch(values: &[u32], roots: &mut [u16], first: usize, count: usize, budget: u64) -> BatchAnswer
+pub fn sqrt_batch(
+    values: &[u32],
+    roots: &mut [u16],
+    first: usize,
+    count: usize,
+    budget: u64,
+) -> BatchAnswer
     ensures { λ r. ⌜ Batched (now (values .entry)) (now (roots .entry)) first count budget (r .refusal) (r .done) (r .spent) (now (roots .exit)) ⌝ }
 {
     if first > values.len() {

@@ -19,8 +19,9 @@ pub(crate) fn run_part(values: &[u32], roots: &mut [u16], budget: u64) -> Finish
     while done < values.len() {
         let answer = sqrt_rem(values[done]);
         let cost = answer.steps as u64;
-        // the value that does not fit is neither charged nor written
-        if budget - spent < cost {
+        let left = budget - spent;
+        // The value that does not fit is neither charged nor written.
+        if left < cost {
             return Finished { done, spent };
         }
         roots[done] = answer.root;
