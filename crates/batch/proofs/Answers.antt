@@ -5,14 +5,14 @@ use mathlib.Core.List.{List, _++_, map, append-assoc}
 use Prim.Native.Nat.{ℕ, _+_, _-_, _≤_, _<_}
 use native.Mathlib.Nat.{zero-add}
 use native.Mathlib.Omega.{arith}
-use lib.Dec.{ltb, eqb}
+use lib.Dec.{eqb}
 use lib.ListN.{length, take, drop, take-append-drop, length-take, length-drop}
 use lib.Seq.{drop-append-le, drop-drop}
 use borrow.Author.Tests.{lt-ltb, le-ltb, eq-eqb, ne-eqb, eqb-true, eqb-false}
 use Rattle.defs.specs.Kinds.{square}
 use Rattle.defs.specs.Roots.{rootOf}
 use Rattle.defs.specs.Refusals.{answered, firstBeyond, countBeyond, lengthsDiffer}
-use Rattle.batch.specs.Batch.{costs, paid, part, refusalOf, Refused, Ran, Batched}
+use Rattle.batch.specs.Batch.{part, refusalOf, Refused, Ran, Batched}
 use Rattle.batch.proofs.Paid.{paid-largest}
 
 -- the refusal by what its tests found
@@ -26,7 +26,7 @@ pub lengths-differ : (first count values roots : ℕ) → first ≤ values → c
     refusalOf first count values roots ≡ lengthsDiffer
 lengths-differ first count values roots h g d = rw (le-ltb values first h, le-ltb (values - first) count g, ne-eqb values roots d)
 
-pub none-refused : (first count values roots : ℕ) → first ≤ values → count ≤ values - first → values ≡ roots →
+none-refused : (first count values roots : ℕ) → first ≤ values → count ≤ values - first → values ≡ roots →
     refusalOf first count values roots ≡ answered
 none-refused first count values roots h g s = rw (le-ltb values first h, le-ltb (values - first) count g, eq-eqb values roots s)
 
@@ -75,16 +75,13 @@ answers {values} {before} {middle} {first} {count} {budget} {done} {spent} h g s
 one-ran : {values before after after′ : List ℕ} {first budget done spent done′ spent′ : ℕ} →
     Ran values before first budget done spent after → Ran values before first budget done′ spent′ after′ →
     (done ≡ done′) × (spent ≡ spent′) × (after ≡ after′)
-one-ran {values} {before} {after} {after′} {first} {budget} {done} {spent} {done′} {spent′} x y =
-    let same : done ≡ done′ = x .is-done ∙ sym (y .is-done) in (
-      same,
-      x .is-spent ∙ ap (λ (k : ℕ). costs (take k values)) same ∙ sym (y .is-spent),
-      x .is-after ∙ ap (λ (k : ℕ). take first before ++ (map (rootOf square) (take k values) ++ drop (first + k) before)) same ∙ sym (y .is-after),
-    )
+one-ran x y =
+    let same = x .is-done ∙ sym (y .is-done) in
+    (same, (cc), (cc))
 
 one-refused : {before after after′ : List ℕ} {done spent done′ spent′ : ℕ} → Refused before done spent after → Refused before done′ spent′ after′ →
     (done ≡ done′) × (spent ≡ spent′) × (after ≡ after′)
-one-refused x y = (x .none-done ∙ sym (y .none-done), x .none-spent ∙ sym (y .none-spent), x .unchanged ∙ sym (y .unchanged))
+one-refused x y = ((cc), (cc), (cc))
 
 -- no second answer, and no second list of roots, fits a batch
 pub one-batch : {values before after after′ : List ℕ} {first count budget refusal done spent refusal′ done′ spent′ : ℕ} →

@@ -1,5 +1,5 @@
 -- What follows of every batch from its promise alone: how far it goes, and what it spends at most. Assumes nothing.
-use mathlib.Core.Path.{_≡_, refl, sym, ap, _∙_}
+use mathlib.Core.Path.{_≡_, refl, sym, _∙_}
 use mathlib.Core.Bool.{Bool, true, false, cond}
 use mathlib.Core.List.{List}
 use Prim.Native.Nat.{ℕ, _+_, _*_, _-_, _≤_, _<_}
@@ -9,7 +9,7 @@ use lib.Dec.{ltb, eqb}
 use lib.ListN.{length, take}
 use borrow.Author.Tests.{ltb-false, eqb-true, eqb-false}
 use Rattle.defs.specs.Refusals.{answered, firstBeyond, countBeyond, lengthsDiffer}
-use Rattle.batch.specs.Batch.{costs, paid, part, refusalOf, Batched}
+use Rattle.batch.specs.Batch.{costs, part, refusalOf, Batched}
 use Rattle.batch.specs.Largest.{Affords, Largest, U32s}
 use Rattle.batch.proofs.Paid.{paid-largest, stops-short}
 use Rattle.batch.proofs.Costs.{costs-most, part-u32s}

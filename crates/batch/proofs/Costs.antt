@@ -5,7 +5,7 @@ use mathlib.Core.List.{List, [], _∷_}
 use Prim.Native.Nat.{ℕ, zero, suc, _+_, _*_, _-_, _^_, _≤_, _<_, zero-le}
 use native.Mathlib.Omega.{arith}
 use lib.Dec.{eqb, lit<}
-use lib.ListN.{take, drop, getD}
+use lib.ListN.{take, drop}
 use lib.Seq.{getD-drop}
 use borrow.Author.Tests.{eqb-false}
 use Rattle.defs.specs.Kinds.{Kind, square, Width, u32, bitsOf}
@@ -17,7 +17,7 @@ use Rattle.laws.proofs.Roots.{root-is, answer-is}
 use Rattle.laws.proofs.Shift.{Wide, shifted}
 use Rattle.starts.proofs.Cells.{cells}
 use Rattle.starts.proofs.Calls.{answers}
-use Rattle.batch.specs.Batch.{costOf, costs, part}
+use Rattle.batch.specs.Batch.{costs, part}
 use Rattle.batch.specs.Largest.{U32s}
 
 -- the steps of a normalised value: those of a fix-up from S to the root

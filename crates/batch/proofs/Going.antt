@@ -1,5 +1,5 @@
 -- A run over a part: where it stands after each value, and what it has done where it stops. Assumes nothing.
-use mathlib.Core.Path.{_≡_, refl, sym, ap, _∙_}
+use mathlib.Core.Path.{_≡_, refl, ap, _∙_}
 use mathlib.Core.List.{List, [], _∷_, _++_, map}
 use Prim.Native.Nat.{ℕ, zero, suc, _+_, _-_, _≤_, _<_, zero-le}
 use native.Mathlib.Nat.{le-of-suc-le-suc, not-suc-le-zero, zero-add}
@@ -10,8 +10,7 @@ use Rattle.defs.specs.Kinds.{square, u32}
 use Rattle.defs.specs.Roots.{rootOf}
 use Rattle.defs.specs.Answers.{Full}
 use Rattle.laws.proofs.Roots.{one-root, root-is}
-use Rattle.batch.specs.Batch.{costs, paid, Ran}
-use Rattle.batch.specs.Largest.{Affords}
+use Rattle.batch.specs.Batch.{costs, Ran}
 use Rattle.batch.proofs.Paid.{costs-next, stops, one-largest, paid-largest}
 
 -- where a run stands: `done` values are paid for, and their roots stand in the first places

@@ -1,9 +1,9 @@
 -- What a budget pays for: the largest number of values that it affords, which is one number. Assumes nothing.
-use mathlib.Core.Path.{_≡_, refl, sym}
+use mathlib.Core.Path.{_≡_, refl}
 use mathlib.Core.Bool.{Bool, true, false}
 use mathlib.Core.List.{List, [], _∷_}
 use Prim.Native.Nat.{ℕ, zero, suc, _+_, _-_, _≤_, _<_, zero-le, suc-le-suc}
-use native.Mathlib.Nat.{le-refl, le-trans, le-antisymm, le-of-suc-le-suc, not-suc-le-zero, lt-of-not-le, lt-of-lt-of-le, lt-irrefl}
+use native.Mathlib.Nat.{le-antisymm, le-of-suc-le-suc, not-suc-le-zero, lt-of-not-le}
 use native.Mathlib.Numerals.{add-one}
 use native.Mathlib.Omega.{arith}
 use lib.Dec.{leb}
@@ -22,7 +22,7 @@ costs-next l k h = rw add-one (by-list l k h)
     by-list (n ∷ l) (suc k) h = omega (arith, by-list l k (le-of-suc-le-suc h))
 
 -- more values cost no less
-pub costs-rise : (l : List ℕ) (j k : ℕ) → j ≤ k → costs (take j l) ≤ costs (take k l)
+costs-rise : (l : List ℕ) (j k : ℕ) → j ≤ k → costs (take j l) ≤ costs (take k l)
 costs-rise l zero k h = zero-le
 costs-rise l (suc j) zero h = absurd (not-suc-le-zero h)
 costs-rise [] (suc j) (suc k) h = zero-le
