@@ -1,3 +1,5 @@
 pub mod Texts
 pub mod Reading
 pub mod Writing
+pub mod Spelling
+pub mod Requests

@@ -1,1 +1,71 @@
--- Assumes nothing.
+-- Laws on writes: one that fits, one that does not, and two in a row. Assumes nothing.
+use mathlib.Core.Path.{_≡_, refl, sym, _∙_, ap}
+use mathlib.Core.Bool.{Bool, true, false}
+use mathlib.Core.List.{List, [], _∷_, _++_, append-assoc}
+use Prim.Native.Nat.{ℕ, _+_, _≤_, _<_}
+use native.Mathlib.Nat.{add-assoc}
+use native.Mathlib.Omega.{arith}
+use lib.Dec.{leb}
+use lib.ListN.{length, take, drop, length-append}
+use lib.Seq.{take-length, paste, length-paste, take-paste, drop-paste, drop-drop}
+use borrow.Author.Tests.{le-leb, lt-leb, leb-true, leb-false}
+use Rattle.text.specs.Writing.{fitsAt, pasted, wrote, Wrote}
+
+-- a write that fits, and one that does not
+pub pasted-fits : (old : List ℕ) (at : ℕ) (bytes : List ℕ) → at + length bytes ≤ length old →
+    pasted old at bytes ≡ take at old ++ (bytes ++ drop (at + length bytes) old)
+unfolding pasted
+pasted-fits old at bytes h = rw (le-leb (at + length bytes) (length old) h)
+
+pub pasted-past : (old : List ℕ) (at : ℕ) (bytes : List ℕ) → length old < at + length bytes → pasted old at bytes ≡ old
+unfolding pasted
+pasted-past old at bytes h = rw (lt-leb (at + length bytes) (length old) h)
+
+pasted-paste : (old : List ℕ) (at : ℕ) (bytes : List ℕ) → at + length bytes ≤ length old →
+    pasted old at bytes ≡ paste old at bytes (length bytes)
+pasted-paste old at bytes h =
+    pasted-fits old at bytes h ∙ sym (append-assoc (take at old) bytes _) ∙ rw (take-length bytes)
+
+pub wrote-all : (old : List ℕ) (at : ℕ) (bytes : List ℕ) → at + length bytes ≤ length old →
+    Wrote old at bytes (paste old at bytes (length bytes)) (wrote true at (length bytes))
+wrote-all old at bytes h = record {
+  is-text = sym (pasted-paste old at bytes h);
+  is-answer = rw (le-leb (at + length bytes) (length old) h);
+}
+
+pub wrote-none : (old : List ℕ) (at : ℕ) (bytes : List ℕ) → length old < at + length bytes → Wrote old at bytes old (wrote false at 0)
+wrote-none old at bytes h = record {
+  is-text = sym (pasted-past old at bytes h);
+  is-answer = rw (lt-leb (at + length bytes) (length old) h);
+}
+
+-- a write keeps the length
+pub length-pasted : (old : List ℕ) (at : ℕ) (bytes : List ℕ) → length (pasted old at bytes) ≡ length old
+length-pasted old at bytes = by-test (fitsAt old at bytes) refl
+  where
+    by-test : (t : Bool) → fitsAt old at bytes ≡ t → length (pasted old at bytes) ≡ length old
+    by-test true e =
+        let fits = leb-true (at + length bytes) (length old) e in
+        ap length (pasted-paste old at bytes fits) ∙ length-paste old at bytes (length bytes) fits (omega arith)
+    by-test false e = ap length (pasted-past old at bytes (leb-false (at + length bytes) (length old) e))
+
+-- two writes in a row, where both fit, are one write of the bytes in a row
+pub two-writes : (old : List ℕ) (at : ℕ) (a b : List ℕ) → at + length (a ++ b) ≤ length old →
+    pasted (pasted old at a) (at + length a) b ≡ pasted old at (a ++ b)
+two-writes old at a b h =
+    pasted-fits (pasted old at a) next b (omega (arith, length-append a b, length-pasted old at a))
+    ∙ rw (pasted-paste old at a first, take-paste old at a (length a) (omega arith) (omega arith), behind, take-length a)
+      (rw (length-append, ← add-assoc) (simp append-assoc))
+    ∙ sym (pasted-fits old at (a ++ b) h)
+  where
+    next : ℕ
+    next = at + length a
+
+    first : at + length a ≤ length old
+    first = omega (arith, length-append a b)
+
+    behind : drop (next + length b) (paste old at a (length a)) ≡ drop (next + length b) old
+    behind =
+        sym (drop-drop (length b) next (paste old at a (length a)))
+        ∙ ap (drop (length b)) (drop-paste old at a (length a) (omega arith) (omega arith))
+        ∙ drop-drop (length b) next old

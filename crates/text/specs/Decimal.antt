@@ -9,10 +9,14 @@ abbrev pub IsDigits : List ℕ → Type 0
 IsDigits [] = Unit {0}
 IsDigits (b ∷ s) = (48 ≤ b) × (b ≤ 57) × IsDigits s
 
+-- the value v with one digit behind it
+abbrev pub pushed : ℕ → ℕ → ℕ
+pushed v b = 10 * v + (b - 48)
+
 -- the value v with the digits of a text behind it
 abbrev pub valueAfter : ℕ → List ℕ → ℕ
 valueAfter v [] = v
-valueAfter v (b ∷ s) = valueAfter (10 * v + (b - 48)) s
+valueAfter v (b ∷ s) = valueAfter (pushed v b) s
 
 -- the value of a text of digits, the most significant first
 abbrev pub valueOf : List ℕ → ℕ

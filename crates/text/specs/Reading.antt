@@ -2,10 +2,10 @@
 use mathlib.Core.Path.{_≡_}
 use mathlib.Core.Bool.{Bool, true, false, _&&_}
 use mathlib.Core.List.{List, [], _∷_}
-use Prim.Native.Nat.{ℕ, _+_, _*_, _-_, _≤_}
+use Prim.Native.Nat.{ℕ, _≤_}
 use lib.Dec.{leb}
 use lib.ListN.{length}
-use Rattle.text.specs.Decimal.{IsDigits, valueOf}
+use Rattle.text.specs.Decimal.{IsDigits, pushed, valueOf}
 use Rattle.text.specs.declared.read.Decimal.{Decimal}
 
 -- the text is 1 to d digits, leading zeros counted, whose value v is at most m
@@ -39,4 +39,4 @@ readOf s d m = answer (readable s d m) (valueOf s)
 
 -- the value v with one digit more behind it, if the byte is a digit and the new value is at most m
 unfoldable pub nextOf : ℕ → ℕ → ℕ → Decimal
-nextOf v b m = answer (isDigit b && leb (10 * v + (b - 48)) m) (10 * v + (b - 48))
+nextOf v b m = answer (isDigit b && leb (pushed v b) m) (pushed v b)

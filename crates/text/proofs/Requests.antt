@@ -1,0 +1,41 @@
+-- Requests: a word is compared byte by byte; the input is answered exactly if it asks for something. Assumes nothing.
+use mathlib.Core.Path.{_≡_, refl, sym, _∙_, ap}
+use mathlib.Core.Bool.{Bool, true, false}
+use mathlib.Core.List.{List, [], _∷_, _++_}
+use Prim.Native.Nat.{ℕ, suc, _+_, _-_, _≤_, _<_}
+use native.Mathlib.Numerals.{add-one}
+use native.Mathlib.Omega.{arith}
+use lib.Dec.{eqb}
+use lib.ListN.{length, getD, take, drop, drop-of-length-le}
+use lib.Seq.{drop-cons}
+use borrow.Author.Tests.{eq-eqb, ne-eqb}
+use Rattle.text.specs.Request.{startsWith}
+
+-- the first i bytes of the word and of the text are the same: what is left of them decides
+pub record Matches (word s : List ℕ) (i : ℕ) : Type 0 where
+  pub in-word : i ≤ length word
+  pub in-text : i ≤ length s
+  pub decides : startsWith word s ≡ startsWith (drop i word) (drop i s)
+
+pub match-begins : (word s : List ℕ) → Matches word s 0
+match-begins word s = record { in-word = omega arith; in-text = omega arith; decides = refl }
+
+module _ {word s : List ℕ} {i : ℕ} (m : Matches word s i) where
+  pub match-ends : length word ≤ i → startsWith word s ≡ true
+  match-ends h = m .decides ∙ rw (drop-of-length-le word h)
+
+  pub match-short : i < length word → length s ≤ i → startsWith word s ≡ false
+  match-short h k = m .decides ∙ rw (drop-cons word i 0 h, drop-of-length-le s k)
+
+  compared : i < length word → i < length s → startsWith word s ≡ startsWith (getD word i 0 ∷ drop (suc i) word) (getD s i 0 ∷ drop (suc i) s)
+  compared h k = m .decides ∙ rw (drop-cons word i 0 h, drop-cons s i 0 k)
+
+  pub match-differs : i < length word → i < length s → (getD s i 0 ≡ getD word i 0 → ⊥) → startsWith word s ≡ false
+  match-differs h k differs = compared h k ∙ rw (ne-eqb (getD s i 0) (getD word i 0) differs)
+
+  pub match-on : i < length word → i < length s → getD s i 0 ≡ getD word i 0 → Matches word s (i + 1)
+  match-on h k same = record {
+    in-word = omega arith;
+    in-text = omega arith;
+    decides = compared h k ∙ rw (eq-eqb (getD s i 0) (getD word i 0) same, add-one);
+  }
