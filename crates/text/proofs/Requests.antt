@@ -1,15 +1,17 @@
 -- Requests: a word is compared byte by byte; the input is answered exactly if it asks for something. Assumes nothing.
 use mathlib.Core.Path.{_≡_, refl, sym, _∙_, ap}
-use mathlib.Core.Bool.{Bool, true, false}
+use mathlib.Core.Bool.{Bool, true, false, cond}
 use mathlib.Core.List.{List, [], _∷_, _++_}
 use Prim.Native.Nat.{ℕ, suc, _+_, _-_, _≤_, _<_}
 use native.Mathlib.Numerals.{add-one}
 use native.Mathlib.Omega.{arith}
 use lib.Dec.{eqb}
-use lib.ListN.{length, getD, take, drop, drop-of-length-le}
-use lib.Seq.{drop-cons}
+use lib.ListN.{length, getD, take, drop, length-drop, drop-of-length-le}
+use lib.Seq.{drop-cons, getD-drop}
 use borrow.Author.Tests.{eq-eqb, ne-eqb}
-use Rattle.text.specs.Request.{startsWith}
+use Rattle.text.specs.Reading.{readOf}
+use Rattle.text.specs.Request.{startsWith, bad, good, numbered, lineOf, askedOf}
+use Rattle.text.specs.declared.read.Decimal.{Decimal}
 
 -- the first i bytes of the word and of the text are the same: what is left of them decides
 pub record Matches (word s : List ℕ) (i : ℕ) : Type 0 where
@@ -39,3 +41,34 @@ module _ {word s : List ℕ} {i : ℕ} (m : Matches word s i) where
     in-text = omega arith;
     decides = compared h k ∙ rw (eq-eqb (getD s i 0) (getD word i 0) same, add-one);
   }
+
+-- the cases of `askedOf`, as the code tells them apart
+module _ (word : List ℕ) (c : Bool) (s : List ℕ) where
+  pub no-word : startsWith word s ≡ false → askedOf word c s ≡ bad
+  unfolding askedOf
+  no-word e = rw e
+
+  pub word-alone : startsWith word s ≡ true → length s ≤ length word → askedOf word c s ≡ bad
+  unfolding askedOf lineOf
+  word-alone e h = rw (e, drop-of-length-le s {i = length word} h)
+
+  -- behind the word stands a text t, whose last byte is that of s
+  module _ (e : startsWith word s ≡ true) (h : length word < length s) where
+    line : askedOf word c s ≡
+        cond (eqb (getD s (length s - 1) 0) 10) (numbered c (readOf (take (length s - 1 - length word) (drop (length word) s)) 10 4294967295)) bad
+    unfolding askedOf lineOf
+    line =
+        let last : length word + (length s - length word - 1) ≡ length s - 1 = omega arith in
+        let rest : length s - length word - 1 ≡ length s - 1 - length word = omega arith in
+        rw (e, length-drop, getD-drop, last, rest)
+
+    pub no-newline : (getD s (length s - 1) 0 ≡ 10 → ⊥) → askedOf word c s ≡ bad
+    no-newline p = line ∙ rw (ne-eqb (getD s (length s - 1) 0) 10 p)
+
+    module _ {d : Decimal} (p : getD s (length s - 1) 0 ≡ 10)
+        (read : d ≡ readOf (take (length s - 1 - length word) (drop (length word) s)) 10 4294967295) where
+      pub no-number : d .ok ≡ false → askedOf word c s ≡ bad
+      no-number q = line ∙ rw (eq-eqb (getD s (length s - 1) 0) 10 p, ← read, q)
+
+      pub numbered-line : d .ok ≡ true → askedOf word c s ≡ good c (d .value)
+      numbered-line q = line ∙ rw (eq-eqb (getD s (length s - 1) 0) 10 p, ← read, q)

@@ -26,6 +26,9 @@ pub spell-room : {n : ℕ} {text : List ℕ} {from rest : ℕ} → n < 2 ^ 64 �
 spell-room {n} {text} {from} {rest} h s =
     omega (arith, s .is-long, s .in-text, text-some rest, text-length-64 n h, simp (length-append, length-drop) at (ap length (s .so-far)))
 
+pub spell-place : {n : ℕ} {text : List ℕ} {from rest : ℕ} → n < 2 ^ 64 → Spelled n text from rest → from - 1 < length text
+spell-place h s = omega (arith, spell-room h s, s .is-long, s .in-text)
+
 -- a digit stored in front of the others
 stored : (text : List ℕ) (from d : ℕ) → 1 ≤ from → from ≤ length text → drop (from - 1) (set text (from - 1) d) ≡ d ∷ drop from text
 stored text from d h k =
@@ -35,17 +38,18 @@ stored text from d h k =
     drop-cons (set text j d) j 0 (lt-length-set text j d inside)
     ∙ rw (getD-set-same text j d 0 inside, drop-set-lt (suc j) text j d (omega arith), next)
 
-pub spell-on : {n : ℕ} {text : List ℕ} {from rest : ℕ} → n < 2 ^ 64 → 9 < rest → Spelled n text from rest →
-    Spelled n (set text (from - 1) (48 + rest % 10)) (from - 1) (rest / 10)
-spell-on {n} {text} {from} {rest} small h s = record {
+-- with the next digit d put in front
+pub spell-on : {n : ℕ} {text : List ℕ} {from rest d : ℕ} → n < 2 ^ 64 → 9 < rest → d ≡ 48 + rest % 10 → Spelled n text from rest →
+    Spelled n (set text (from - 1) d) (from - 1) (rest / 10)
+spell-on {n} {text} {from} {rest} {d} small h e s = record {
   is-long = length-set text (from - 1) _ ∙ s .is-long;
   in-text = omega (arith, s .in-text);
-  so-far = rw (stored text from (48 + rest % 10) (spell-room small s) (omega (arith, s .is-long, s .in-text)))
+  so-far = rw (e, stored text from (48 + rest % 10) (spell-room small s) (omega (arith, s .is-long, s .in-text)))
       (sym (append-assoc (textOf (rest / 10)) ((48 + rest % 10) ∷ []) (drop from text)) ∙ ap (λ (l : List ℕ). l ++ drop from text) (sym (text-long rest h)) ∙ s .so-far);
 }
 
-pub spell-ends : {n : ℕ} {text : List ℕ} {from rest : ℕ} → n < 2 ^ 64 → rest ≤ 9 → Spelled n text from rest →
-    drop (from - 1) (set text (from - 1) (48 + rest)) ≡ textOf n
-spell-ends {n} {text} {from} {rest} small h s =
-    stored text from (48 + rest) (spell-room small s) (omega (arith, s .is-long, s .in-text))
+pub spell-ends : {n : ℕ} {text : List ℕ} {from rest d : ℕ} → n < 2 ^ 64 → rest ≤ 9 → d ≡ 48 + rest → Spelled n text from rest →
+    drop (from - 1) (set text (from - 1) d) ≡ textOf n
+spell-ends {n} {text} {from} {rest} {d} small h e s =
+    ap (λ (b : ℕ). drop (from - 1) (set text (from - 1) b)) e ∙ stored text from (48 + rest) (spell-room small s) (omega (arith, s .is-long, s .in-text))
     ∙ ap (λ (l : List ℕ). l ++ drop from text) (sym (text-short rest (omega arith))) ∙ s .so-far

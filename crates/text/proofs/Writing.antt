@@ -4,10 +4,11 @@ use mathlib.Core.Bool.{Bool, true, false}
 use mathlib.Core.List.{List, [], _∷_, _++_, append-assoc}
 use Prim.Native.Nat.{ℕ, _+_, _≤_, _<_}
 use native.Mathlib.Nat.{add-assoc}
+use native.Mathlib.Numerals.{add-one}
 use native.Mathlib.Omega.{arith}
 use lib.Dec.{leb}
-use lib.ListN.{length, take, drop, length-append}
-use lib.Seq.{take-length, paste, length-paste, take-paste, drop-paste, drop-drop}
+use lib.ListN.{length, getD, take, drop, set, length-append, length-set}
+use lib.Seq.{take-length, paste, paste-zero, paste-suc, length-paste, take-paste, drop-paste, drop-drop}
 use borrow.Author.Tests.{le-leb, lt-leb, leb-true, leb-false}
 use Rattle.text.specs.Writing.{fitsAt, pasted, wrote, Wrote}
 
@@ -26,18 +27,41 @@ pasted-paste : (old : List ℕ) (at : ℕ) (bytes : List ℕ) → at + length by
 pasted-paste old at bytes h =
     pasted-fits old at bytes h ∙ sym (append-assoc (take at old) bytes _) ∙ rw (take-length bytes)
 
-pub wrote-all : (old : List ℕ) (at : ℕ) (bytes : List ℕ) → at + length bytes ≤ length old →
-    Wrote old at bytes (paste old at bytes (length bytes)) (wrote true at (length bytes))
-wrote-all old at bytes h = record {
-  is-text = sym (pasted-paste old at bytes h);
-  is-answer = rw (le-leb (at + length bytes) (length old) h);
-}
-
+-- a write that does not fit leaves the list, and says so
 pub wrote-none : (old : List ℕ) (at : ℕ) (bytes : List ℕ) → length old < at + length bytes → Wrote old at bytes old (wrote false at 0)
 wrote-none old at bytes h = record {
   is-text = sym (pasted-past old at bytes h);
   is-answer = rw (lt-leb (at + length bytes) (length old) h);
 }
+
+-- the first i bytes are in their places
+pub record Pasting (old : List ℕ) (at : ℕ) (bytes out : List ℕ) (i : ℕ) : Type 0 where
+  pub in-bytes : i ≤ length bytes
+  pub fits : at + length bytes ≤ length old
+  pub same-length : length out ≡ length old
+  pub so-far : out ≡ paste old at bytes i
+
+pub paste-begins : (old : List ℕ) (at : ℕ) (bytes : List ℕ) → at + length bytes ≤ length old → Pasting old at bytes old 0
+paste-begins old at bytes h = record { in-bytes = omega arith; fits = h; same-length = refl; so-far = paste-zero old at bytes }
+
+module _ {old : List ℕ} {at : ℕ} {bytes out : List ℕ} {i : ℕ} (p : Pasting old at bytes out i) where
+  pub paste-on : i < length bytes → Pasting old at bytes (set out (at + i) (getD bytes i 0)) (i + 1)
+  paste-on h =
+      let room : at + i < length old = omega (arith, p .fits) in
+      record {
+        in-bytes = omega arith;
+        fits = p .fits;
+        same-length = length-set out (at + i) _ ∙ p .same-length;
+        so-far = rw (p .so-far, add-one) (paste-suc old at bytes i 0 room h);
+      }
+
+  pub paste-ends : length bytes ≤ i → Wrote old at bytes out (wrote true at i)
+  paste-ends h =
+      let all : i ≡ length bytes = omega (arith, p .in-bytes) in
+      record {
+        is-text = p .so-far ∙ rw all (sym (pasted-paste old at bytes (p .fits)));
+        is-answer = rw (all, le-leb (at + length bytes) (length old) (p .fits));
+      }
 
 -- a write keeps the length
 pub length-pasted : (old : List ℕ) (at : ℕ) (bytes : List ℕ) → length (pasted old at bytes) ≡ length old

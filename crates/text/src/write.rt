@@ -1,7 +1,7 @@
 // Bytes and decimal numbers into a lent slice.
 ghost use mathlib.Core.Path.{_≡_};
 ghost use Prim.Native.Nat.{_+_, _≤_, _<_};
-ghost use lib.ListN.{drop};
+ghost use lib.ListN.{length, drop};
 ghost use Rattle.text.specs.Decimal.{textOf};
 ghost use Rattle.text.specs.Writing.{Wrote};
 
@@ -45,8 +45,9 @@ fn digit(n: u64) -> u8
     48 + n as u8
 }
 
-// Puts the digits of n at the end of `text`, last digit first, and answers where they begin.
-fn spell(n: u64, text: &mut [u8; 20]) -> usize
+// Puts the digits of n at the end of `text`, which holds any u64, last digit first, and answers where they begin.
+fn spell(n: u64, text: &mut [u8]) -> usize
+    requires { ⌜ length (now text) ≡ 20 ⌝ }
     ensures { λ r. ⌜ (r ≤ 20) × (drop r (now (text .exit)) ≡ textOf n) ⌝ }
 {
     let mut from = 20;

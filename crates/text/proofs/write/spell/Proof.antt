@@ -1,9 +1,11 @@
 -- `text::write::spell` meets its contract. The loop's invariant: the digits so far are the last of n. Assumes nothing.
+use mathlib.Core.Path.{sym, _∙_}
 use native.Mathlib.Nat.{mod-lt}
 use native.Mathlib.Omega.{arith}
 use borrow.Author.Needs.{needs}
 use lib.Dec.{lit<}
-use Rattle.text.proofs.Spelling.{Spelled, spell-begins, spell-room, spell-on, spell-ends}
+use lib.ListN.{length-set}
+use Rattle.text.proofs.Spelling.{Spelled, spell-begins, spell-room, spell-place, spell-on, spell-ends}
 use Rattle.text.proofs.write.spell.Statement.{statement}
 use Rattle.text.proofs.write.spell.Tie as tie
 use Rattle.text.proofs.write.spell.Reads as reads
@@ -16,29 +18,20 @@ Inv-loop n text₀ from₀ rest₀ text from rest = Spelled n text from rest
 abbrev μ-loop : tie.MeasureT-loop
 μ-loop n text₀ from₀ rest₀ text from rest = rest
 
-loop-holds : tie.Need-loop-holds Inv-loop μ-loop
-loop-holds c = spell-begins _ _ ?
-
-sub-from : tie.Need-sub-from Inv-loop μ-loop
-sub-from c = spell-room ? (c .before .loop .inv)
-
-element-write-text : tie.Need-element-write-text Inv-loop μ-loop
-element-write-text c = ?
-
-loop-less : tie.Need-loop-less Inv-loop μ-loop
-loop-less c = ?
-
 loop-again : tie.Need-loop-again Inv-loop μ-loop
-loop-again c = ?
+loop-again c =
+    let at-loop = c .before .before in
+    spell-on (at-loop .before .before .fits .n .fits) (c .before .loop-test .taken) (c .digit .ensures) (at-loop .loop .inv)
 
-sub-from-2 : tie.Need-sub-from-2 Inv-loop μ-loop
-sub-from-2 c = ?
-
-element-write-text-2 : tie.Need-element-write-text-2 Inv-loop μ-loop
-element-write-text-2 c = ?
+same-length : tie.Need-same-length Inv-loop μ-loop
+same-length c =
+    let at-loop = c .before .before in
+    length-set (at-loop .loop .text) _ _ ∙ at-loop .loop .inv .is-long ∙ sym (at-loop .before .before .pre)
 
 returns : tie.Need-returns Inv-loop μ-loop
-returns c = ?
+returns c =
+    let at-loop = c .before .before in
+    (omega arith, spell-ends (at-loop .before .before .fits .n .fits) (c .before .loop-test .left) (c .digit2 .ensures) (at-loop .loop .inv))
 
 pub spell-spec : {M : Type 1} → statement M
 spell-spec =
@@ -46,13 +39,14 @@ spell-spec =
     (tie.spec
     Inv-loop
     μ-loop
-    loop-holds
-    sub-from
-    (λ c κs. search needs)
-    element-write-text
-    loop-less
+    (λ c. spell-begins _ _ (c .before .pre))
+    (λ c. spell-room (c .before .before .before .fits .n .fits) (c .before .loop .inv))
+    (λ c κs. omega (arith, mod-lt (c .before .loop .rest) {m = 10} (lit< tt)))
+    (λ c. spell-place (c .before .before .before .before .fits .n .fits) (c .before .before .loop .inv))
+    (λ c. omega arith)
     loop-again
-    sub-from-2
+    (λ c. spell-room (c .before .before .before .fits .n .fits) (c .before .loop .inv))
     (λ c κs. search needs)
-    element-write-text-2
+    (λ c. spell-place (c .before .before .before .before .fits .n .fits) (c .before .before .loop .inv))
+    same-length
     returns)
