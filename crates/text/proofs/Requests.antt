@@ -10,7 +10,9 @@ use lib.ListN.{length, getD, take, drop, length-drop, drop-of-length-le}
 use lib.Seq.{drop-cons, getD-drop}
 use borrow.Author.Tests.{eq-eqb, ne-eqb}
 use Rattle.text.specs.Reading.{readOf}
-use Rattle.text.specs.Request.{startsWith, bad, good, numbered, lineOf, askedOf}
+use Rattle.text.specs.Request.{wordOf, startsWith, bad, good, numbered, lineOf, askedOf, requestOf}
+use Rattle.text.specs.declared.request.Request.{Request}
+use Rattle.defs.specs.Kinds.{Kind, square, cube}
 use Rattle.text.specs.declared.read.Decimal.{Decimal}
 
 -- the first i bytes of the word and of the text are the same: what is left of them decides
@@ -72,3 +74,13 @@ module _ (word : List ℕ) (c : Bool) (s : List ℕ) where
 
       pub numbered-line : d .ok ≡ true → askedOf word c s ≡ good c (d .value)
       numbered-line q = line ∙ rw (eq-eqb (getD s (length s - 1) 0) 10 p, ← read, q)
+
+-- the two kinds are asked one after the other
+module _ (s : List ℕ) {a : Request} (first : a ≡ askedOf (wordOf square) false s) where
+  pub first-asked : a .ok ≡ true → a ≡ requestOf s
+  unfolding requestOf
+  first-asked e = rw (← first, e)
+
+  pub second-asked : {b : Request} → a .ok ≡ false → b ≡ askedOf (wordOf cube) true s → b ≡ requestOf s
+  unfolding requestOf
+  second-asked e second = rw (← first, e, second)

@@ -3,8 +3,8 @@ use mathlib.Core.Path.{_≡_, refl, sym, _∙_, ap}
 use mathlib.Core.List.{List, [], _∷_, _++_, append-assoc, append-nil}
 use Prim.Native.Nat.{ℕ, suc, _+_, _-_, _/_, _%_, _^_, _≤_, _<_}
 use native.Mathlib.Omega.{arith}
-use lib.ListN.{length, drop, set, length-append, length-drop, length-set, drop-of-length-le}
-use lib.Seq.{drop-cons, getD-set-same, drop-set-lt, lt-length-set}
+use lib.ListN.{length, take, drop, set, length-append, length-drop, length-set, drop-of-length-le}
+use lib.Seq.{drop-cons, getD-set-same, drop-set-lt, lt-length-set, take-all}
 use Rattle.text.specs.Decimal.{textOf}
 use Rattle.text.proofs.Texts.{text-short, text-long, text-some, text-length-64}
 
@@ -53,3 +53,7 @@ pub spell-ends : {n : ℕ} {text : List ℕ} {from rest d : ℕ} → n < 2 ^ 64 
 spell-ends {n} {text} {from} {rest} {d} small h e s =
     ap (λ (b : ℕ). drop (from - 1) (set text (from - 1) b)) e ∙ stored text from (48 + rest) (spell-room small s) (omega (arith, s .is-long, s .in-text))
     ∙ ap (λ (l : List ℕ). l ++ drop from text) (sym (text-short rest (omega arith))) ∙ s .so-far
+
+-- the part of the text from the first digit on is the digits
+pub digits-part : {text : List ℕ} {from n : ℕ} → length text ≡ 20 → drop from text ≡ textOf n → take (20 - from) (drop from text) ≡ textOf n
+digits-part {text} {from} {n} h e = take-all (20 - from) (drop from text) (omega (arith, length-drop from text)) ∙ e
