@@ -1,4 +1,4 @@
--- Requests: a word is compared byte by byte; the input is answered exactly if it asks for something. Assumes nothing.
+-- What the code of a request keeps and tells apart: a word compared byte by byte, the cases of a line, the two kinds. Assumes nothing.
 use mathlib.Core.Path.{_≡_, refl, sym, _∙_, ap}
 use mathlib.Core.Bool.{Bool, true, false, cond}
 use mathlib.Core.List.{List, [], _∷_, _++_}

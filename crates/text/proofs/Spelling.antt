@@ -55,5 +55,5 @@ spell-ends {n} {text} {from} {rest} {d} small h e s =
     ∙ ap (λ (l : List ℕ). l ++ drop from text) (sym (text-short rest (omega arith))) ∙ s .so-far
 
 -- the part of the text from the first digit on is the digits
-pub digits-part : {text : List ℕ} {from n : ℕ} → length text ≡ 20 → drop from text ≡ textOf n → take (20 - from) (drop from text) ≡ textOf n
-digits-part {text} {from} {n} h e = take-all (20 - from) (drop from text) (omega (arith, length-drop from text)) ∙ e
+pub digits-part : (text : List ℕ) (from : ℕ) {digits : List ℕ} → length text ≡ 20 → drop from text ≡ digits → take (20 - from) (drop from text) ≡ digits
+digits-part text from h e = take-all (20 - from) (drop from text) (omega (arith, length-drop from text)) ∙ e

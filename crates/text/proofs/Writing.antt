@@ -1,5 +1,5 @@
 -- Laws on writes: one that fits, one that does not, and two in a row. Assumes nothing.
-use mathlib.Core.Path.{_≡_, refl, sym, _∙_, ap}
+use mathlib.Core.Path.{_≡_, refl, sym, _∙_, ap, subst}
 use mathlib.Core.Bool.{Bool, true, false}
 use mathlib.Core.List.{List, [], _∷_, _++_, append-assoc}
 use Prim.Native.Nat.{ℕ, _+_, _≤_, _<_}
@@ -11,6 +11,7 @@ use lib.ListN.{length, getD, take, drop, set, length-append, length-set}
 use lib.Seq.{take-length, paste, paste-zero, paste-suc, length-paste, take-paste, drop-paste, drop-drop}
 use borrow.Author.Tests.{le-leb, lt-leb, leb-true, leb-false}
 use Rattle.text.specs.Writing.{fitsAt, pasted, wrote, Wrote}
+use Rattle.text.specs.declared.write.Written.{Written}
 
 -- a write that fits, and one that does not
 pub pasted-fits : (old : List ℕ) (at : ℕ) (bytes : List ℕ) → at + length bytes ≤ length old →
@@ -26,6 +27,10 @@ pasted-paste : (old : List ℕ) (at : ℕ) (bytes : List ℕ) → at + length by
     pasted old at bytes ≡ paste old at bytes (length bytes)
 pasted-paste old at bytes h =
     pasted-fits old at bytes h ∙ sym (append-assoc (take at old) bytes _) ∙ rw (take-length bytes)
+
+-- a write of the same bytes
+pub wrote-same : {old : List ℕ} {at : ℕ} {a b new : List ℕ} {r : Written} → a ≡ b → Wrote old at a new r → Wrote old at b new r
+wrote-same {old} {at} {new = new} {r = r} e w = subst (λ (l : List ℕ). Wrote old at l new r) e w
 
 -- a write that does not fit leaves the list, and says so
 pub wrote-none : (old : List ℕ) (at : ℕ) (bytes : List ℕ) → length old < at + length bytes → Wrote old at bytes old (wrote false at 0)

@@ -15,9 +15,14 @@ abbrev pub wordOf : Kind → List ℕ
 wordOf square = 115 ∷ 113 ∷ 117 ∷ 97 ∷ 114 ∷ 101 ∷ 32 ∷ []
 wordOf cube = 99 ∷ 117 ∷ 98 ∷ 101 ∷ 32 ∷ []
 
+-- the kind as the answer's bool, and back
 abbrev pub isCube : Kind → Bool
 isCube square = false
 isCube cube = true
+
+abbrev pub kindOf : Bool → Kind
+kindOf false = square
+kindOf true = cube
 
 -- the input asks for the root of the kind of the value v
 pub record Asks (k : Kind) (v : ℕ) (s : List ℕ) : Type 0 where

@@ -1,10 +1,7 @@
 -- `text::write::write_decimal` meets its contract: the part of the text that is written is the digits of n. Assumes nothing.
-use mathlib.Core.Path.{subst}
-use mathlib.Core.List.{List}
-use Prim.Native.Nat.{ℕ}
 use borrow.Author.Needs.{needs}
-use Rattle.text.specs.Writing.{Wrote}
 use Rattle.text.proofs.Spelling.{digits-part}
+use Rattle.text.proofs.Writing.{wrote-same}
 use Rattle.text.proofs.write.write_decimal.Statement.{statement}
 use Rattle.text.proofs.write.write_decimal.Tie as tie
 use Rattle.text.proofs.write.write_decimal.Reads as reads
@@ -16,7 +13,7 @@ returns : tie.Need-returns
 returns c =
     let at-write = c .before .before in
     let spelled = at-write .before .before .before .before .before .spell in
-    subst (λ (l : List ℕ). Wrote _ _ l _ _) (digits-part {text = spelled .last .1 .0} (spelled .kept .1 .0) (spelled .ensures .1)) (at-write .write-bytes .ensures)
+    wrote-same (digits-part (spelled .last .1 .0) (spelled .result) (spelled .kept .1 .0) (spelled .ensures .1)) (at-write .write-bytes .ensures)
 
 pub write-decimal-spec : {M : Type 1} → statement M
 write-decimal-spec =
