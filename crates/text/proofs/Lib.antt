@@ -4,3 +4,4 @@ pub mod Writing
 pub mod Spelling
 pub mod Requests
 pub mod Asking
+pub mod Examples

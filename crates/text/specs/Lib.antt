@@ -3,3 +3,4 @@ pub mod Decimal
 pub mod Reading
 pub mod Writing
 pub mod Request
+pub mod Examples

@@ -44,7 +44,7 @@ small : tie.Need-cast-t16
 small c =
     let at-read = c .before .before .before in
     let read = at-read .read-decimal .ensures in
-    let ok = not-false _ (c .before .if4 .left) in
+    let ok : at-read .read-decimal .result .ok ≡ true = not-false _ (c .before .if4 .left) in
     omega (arith, accepted _ _ _ (ap (λ (d : Decimal). d .ok) (sym read) ∙ ok) .small, ap (λ (d : Decimal). d .value) read)
 
 answers : tie.Need-returns-5
