@@ -10,8 +10,7 @@ use lib.ListN.{length, getD, take, drop, length-append, drop-of-length-le}
 use lib.Seq.{drop-append-seam, take-append-seam, getD-append-seam, split-at, drop-length}
 use borrow.Author.Tests.{eq-eqb, eqb-true}
 use Rattle.defs.specs.Kinds.{Kind, square, cube}
-use Rattle.text.specs.Reading.{readOf, answer, Reads}
-use Rattle.text.specs.Request.{wordOf, isCube, kindOf, Asks, bad, good, startsWith, numbered, lineOf, askedOf, requestOf}
+use Rattle.text.specs.Request.{wordOf, isCube, kindOf, numberOf, Asks, bad, good, startsWith, numbered, lineOf, askedOf, requestOf}
 use Rattle.text.specs.declared.request.Request.{Request}
 use Rattle.text.specs.declared.read.Decimal.{Decimal}
 use Rattle.text.proofs.Reading.{accepts, accepted}
@@ -33,7 +32,7 @@ started (a ∷ word) (b ∷ s) e =
     rw (eqb-true b a (parts .0)) (ap (λ (l : List ℕ). a ∷ l) (started word s (parts .1)))
 
 -- the line of some digits and a newline
-line-of : (c : Bool) (digits : List ℕ) → lineOf c (digits ++ (10 ∷ [])) ≡ numbered c (readOf digits 10 4294967295)
+line-of : (c : Bool) (digits : List ℕ) → lineOf c (digits ++ (10 ∷ [])) ≡ numbered c (numberOf digits)
 unfolding lineOf
 line-of c digits =
     let long : length (digits ++ (10 ∷ [])) - 1 ≡ length digits = omega (arith, length-append digits (10 ∷ [])) in
@@ -79,7 +78,7 @@ line-asks k s t whole e = by-test (eqb last 10) refl (d .ok) refl
     last = getD t j 0
 
     d : Decimal
-    d = readOf (take j t) 10 4294967295
+    d = numberOf (take j t)
 
     by-test : (p : Bool) → eqb last 10 ≡ p → (q : Bool) → d .ok ≡ q →
         Asks k (lineOf (isCube k) t .value) s × (lineOf (isCube k) t .cube ≡ isCube k)
@@ -132,7 +131,7 @@ idle false x h e = refl
 line-bad : (c : Bool) (t : List ℕ) → lineOf c t .ok ≡ false → lineOf c t ≡ bad
 unfolding lineOf
 line-bad c t =
-    let d : Decimal = readOf (take (length t - 1) t) 10 4294967295 in
+    let d : Decimal = numberOf (take (length t - 1) t) in
     idle (eqb (getD t (length t - 1) 0) 10) (numbered c d) (idle (d .ok) (good c (d .value)) (λ e. absurd (true≢false e)))
 
 asked-bad : (word : List ℕ) (c : Bool) (s : List ℕ) → askedOf word c s .ok ≡ false → askedOf word c s ≡ bad

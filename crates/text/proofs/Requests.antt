@@ -9,10 +9,9 @@ use lib.Dec.{eqb}
 use lib.ListN.{length, getD, take, drop, length-drop, drop-of-length-le}
 use lib.Seq.{drop-cons, getD-drop}
 use borrow.Author.Tests.{eq-eqb, ne-eqb}
-use Rattle.text.specs.Reading.{readOf}
-use Rattle.text.specs.Request.{wordOf, startsWith, bad, good, numbered, lineOf, askedOf, requestOf}
+use Rattle.text.specs.Request.{wordOf, numberOf, startsWith, bad, good, numbered, lineOf, askedOf, requestOf}
 use Rattle.text.specs.declared.request.Request.{Request}
-use Rattle.defs.specs.Kinds.{Kind, square, cube}
+use Rattle.defs.specs.Kinds.{square, cube}
 use Rattle.text.specs.declared.read.Decimal.{Decimal}
 
 -- the first i bytes of the word and of the text are the same: what is left of them decides
@@ -57,7 +56,7 @@ module _ (word : List ℕ) (c : Bool) (s : List ℕ) where
   -- behind the word stands a text t, whose last byte is that of s
   module _ (e : startsWith word s ≡ true) (h : length word < length s) where
     line : askedOf word c s ≡
-        cond (eqb (getD s (length s - 1) 0) 10) (numbered c (readOf (take (length s - 1 - length word) (drop (length word) s)) 10 4294967295)) bad
+        cond (eqb (getD s (length s - 1) 0) 10) (numbered c (numberOf (take (length s - 1 - length word) (drop (length word) s)))) bad
     unfolding askedOf lineOf
     line =
         let last : length word + (length s - length word - 1) ≡ length s - 1 = omega arith in
@@ -68,7 +67,7 @@ module _ (word : List ℕ) (c : Bool) (s : List ℕ) where
     no-newline p = line ∙ rw (ne-eqb (getD s (length s - 1) 0) 10 p)
 
     module _ {d : Decimal} (p : getD s (length s - 1) 0 ≡ 10)
-        (read : d ≡ readOf (take (length s - 1 - length word) (drop (length word) s)) 10 4294967295) where
+        (read : d ≡ numberOf (take (length s - 1 - length word) (drop (length word) s))) where
       pub no-number : d .ok ≡ false → askedOf word c s ≡ bad
       no-number q = line ∙ rw (eq-eqb (getD s (length s - 1) 0) 10 p, ← read, q)
 

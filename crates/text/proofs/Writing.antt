@@ -98,3 +98,20 @@ two-writes old at a b h =
         sym (drop-drop (length b) next (paste old at a (length a)))
         ∙ ap (drop (length b)) (drop-paste old at a (length a) (omega arith) (omega arith))
         ∙ drop-drop (length b) next old
+
+-- the answer to a write that fits
+pub wrote-fits : {old : List ℕ} {at : ℕ} {bytes new : List ℕ} {r : Written} → at + length bytes ≤ length old → Wrote old at bytes new r →
+    r ≡ wrote true at (length bytes)
+wrote-fits {old} {at} {bytes} h w = w .is-answer ∙ rw (le-leb (at + length bytes) (length old) h)
+
+-- the same of the writers: two writes in a row, the second where the first ended
+pub writes-on : {old : List ℕ} {at : ℕ} {a b mid new : List ℕ} {r q : Written} → at + length (a ++ b) ≤ length old →
+    Wrote old at a mid r → Wrote mid (r .next) b new q → Wrote old at (a ++ b) new q
+writes-on {old} {at} {a} {b} {mid} {new} {r} {q} h first second =
+    let next : r .next ≡ at + length a = ap (λ (x : Written). x .next) (wrote-fits (omega (arith, length-append a b)) first) in
+    let long : length mid ≡ length old = ap length (first .is-text) ∙ length-pasted old at a in
+    let end : r .next + length b ≡ at + length (a ++ b) = omega (arith, length-append a b) in
+    record {
+      is-text = second .is-text ∙ rw (next, first .is-text) (two-writes old at a b h);
+      is-answer = wrote-fits (omega arith) second ∙ rw (end, le-leb (at + length (a ++ b)) (length old) h);
+    }

@@ -24,10 +24,17 @@ abbrev pub kindOf : Bool → Kind
 kindOf false = square
 kindOf true = cube
 
+-- the number of a request: 1 to 10 digits that make at most 4294967295
+abbrev pub Number : List ℕ → ℕ → Type 0
+Number s v = Reads s 10 4294967295 v
+
+abbrev pub numberOf : List ℕ → Decimal
+numberOf s = readOf s 10 4294967295
+
 -- the input asks for the root of the kind of the value v
 pub record Asks (k : Kind) (v : ℕ) (s : List ℕ) : Type 0 where
   pub digits : List ℕ
-  pub reads : Reads digits 10 4294967295 v
+  pub reads : Number digits v
   pub whole : s ≡ wordOf k ++ (digits ++ (10 ∷ []))
 
 -- nothing good is asked: false and 0
@@ -49,7 +56,7 @@ numbered c d = cond (d .ok) (good c (d .value)) bad
 
 -- what the text behind the word asks: its last byte is a newline, and those before it are read
 unfoldable pub lineOf : Bool → List ℕ → Request
-lineOf c t = cond (eqb (getD t (length t - 1) 0) 10) (numbered c (readOf (take (length t - 1) t) 10 4294967295)) bad
+lineOf c t = cond (eqb (getD t (length t - 1) 0) 10) (numbered c (numberOf (take (length t - 1) t))) bad
 
 -- what the whole input asks, if it starts with the word of the kind
 unfoldable pub askedOf : List ℕ → Bool → List ℕ → Request

@@ -16,13 +16,13 @@ fn next_value(value: u64, byte: u8, most: u64) -> Decimal
         ok: false,
         value: 0,
     };
-    if byte < 48 {
+    if byte < b'0' {
         return none;
     }
-    if byte > 57 {
+    if byte > b'9' {
         return none;
     }
-    let digit = (byte - 48) as u64;
+    let digit = (byte - b'0') as u64;
     // divided and taken off, since the product and the sum could wrap
     if value > most / 10 {
         return none;

@@ -44,7 +44,7 @@ fn asked(s: &[u8], word: &[u8], cube: bool) -> Request
         return none;
     }
     let end = s.len() - 1;
-    if s[end] != 10 {
+    if s[end] != b'\n' {
         return none;
     }
     let digits = read_decimal(&s[at..end], 10, 4294967295);

@@ -42,7 +42,7 @@ fn digit(n: u64) -> u8
     requires { ⌜ n < 10 ⌝ }
     ensures { λ r. ⌜ r ≡ 48 + n ⌝ }
 {
-    48 + n as u8
+    b'0' + n as u8
 }
 
 // Puts the digits of n at the end of `text`, which holds any u64, last digit first, and answers where they begin.
