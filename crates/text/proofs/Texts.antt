@@ -1,14 +1,14 @@
 -- Laws on `textOf`: its value, its digits, no leading zero, and how long it is. Assumes nothing.
 use mathlib.Core.Path.{_≡_, refl, sym, _∙_, ap}
 use mathlib.Core.Bool.{Bool, true, false}
-use mathlib.Core.List.{List, [], _∷_, _++_}
+use mathlib.Core.List.{List, [], _∷_, _++_, append-assoc, append-nil}
 use Prim.Native.Nat.{ℕ, zero, suc, _+_, _*_, _/_, _%_, _^_, _≤_, _<_}
 use native.Mathlib.Nat.{div-lt-self, div-add-mod, mod-lt, div-lt-iff-lt-mul, not-suc-le-zero, lt-of-lt-of-le, pow-suc}
 use native.Mathlib.Omega.{arith}
 use lib.Dec.{ltb, lit<, lit≤}
 use lib.ListN.{length, getD, length-append, List·getD-append}
 use borrow.Author.Tests.{ltb-true, ltb-false, lt-ltb, le-ltb}
-use Rattle.text.specs.Decimal.{IsDigits, valueAfter, valueOf, textWithin, textOf}
+use Rattle.text.specs.Decimal.{IsDigits, pushed, valueAfter, valueOf, textWithin, textOf}
 
 tenth : {n : ℕ} → 10 ≤ n → n / 10 < n
 tenth {n} h = div-lt-self {n = n} {k = 10} (omega arith) (lit< tt)
@@ -107,3 +107,21 @@ text-length-64 n h = text-length 19 n (lt-of-lt-of-le h (lit≤ tt))
 
 pub text-length-32 : (n : ℕ) → n < 2 ^ 32 → length (textOf n) ≤ 10
 text-length-32 n h = text-length 9 n (lt-of-lt-of-le h (lit≤ tt))
+
+-- a digit behind the value v is a digit behind its text, and so for a text of digits
+text-pushed : (v b : ℕ) → 0 < v → 48 ≤ b → b ≤ 57 → textOf (pushed v b) ≡ textOf v ++ (b ∷ [])
+text-pushed v b h l u =
+    let quotient : pushed v b / 10 ≡ v = omega arith in
+    let digit : 48 + pushed v b % 10 ≡ b = omega arith in
+    text-long (pushed v b) (omega arith) ∙ rw (quotient, digit)
+
+text-behind : (v : ℕ) (s : List ℕ) → 0 < v → IsDigits s → textOf (valueAfter v s) ≡ textOf v ++ s
+text-behind v [] h d = sym (append-nil (textOf v))
+text-behind v (b ∷ s) h d =
+    text-behind (pushed v b) s (omega arith) (d .2) ∙ rw (text-pushed v b h (d .0) (d .1)) (append-assoc (textOf v) (b ∷ []) s)
+
+-- digits that begin with no 0 are the text of their value: a number has no second text without leading zeros
+pub text-of-value : (b : ℕ) (s : List ℕ) → IsDigits (b ∷ s) → 48 < b → textOf (valueOf (b ∷ s)) ≡ b ∷ s
+text-of-value b s d h =
+    let first : 48 + pushed 0 b ≡ b = omega arith in
+    text-behind (pushed 0 b) s (omega arith) (d .2) ∙ rw (text-short (pushed 0 b) (omega (arith, d .1)), first)
