@@ -1,13 +1,12 @@
 -- The input is answered exactly if it asks for something, with the kind and the value that it asks for. Assumes nothing.
 use mathlib.Core.Path.{_≡_, refl, sym, _∙_, ap}
-use mathlib.Core.Bool.{Bool, true, false, cond, _&&_, and-eq-true-iff, false≢true, true≢false}
+use mathlib.Core.Bool.{Bool, true, false, cond, and-eq-true-iff, false≢true, true≢false}
 use mathlib.Core.List.{List, [], _∷_, _++_}
-use Prim.Native.Nat.{ℕ, suc, _+_, _-_, _≤_, _<_}
-use native.Mathlib.Numerals.{add-one}
+use Prim.Native.Nat.{ℕ, suc, _-_}
 use native.Mathlib.Omega.{arith}
-use lib.Dec.{eqb, eqb-refl}
+use lib.Dec.{eqb}
 use lib.ListN.{length, getD, take, drop, length-append, drop-of-length-le}
-use lib.Seq.{drop-append-seam, take-append-seam, getD-append-seam, split-at, drop-length}
+use lib.Seq.{drop-append-seam, take-append-seam, getD-append-seam, split-at}
 use borrow.Author.Tests.{eq-eqb, eqb-true}
 use Rattle.defs.specs.Kinds.{Kind, square, cube}
 use Rattle.text.specs.Request.{wordOf, isCube, kindOf, numberOf, Asks, bad, good, startsWith, numbered, lineOf, askedOf, requestOf}
@@ -86,12 +85,14 @@ line-asks k s t whole e = by-test (eqb last 10) refl (d .ok) refl
     by-test true x false y = absurd (false≢true (rw (x, y) at e))
     by-test true x true y =
         let is-good : lineOf (isCube k) t ≡ good (isCube k) (d .value) = rw (x, y) in
-        rw is-good
-        (record {
-          digits = take j t;
-          reads = accepted (take j t) 10 4294967295 y;
-          whole = whole ∙ ap (λ (l : List ℕ). wordOf k ++ l) (newline-last t (eqb-true last 10 x));
-        }, refl)
+        rw is-good (
+          record {
+            digits = take j t;
+            reads = accepted (take j t) 10 4294967295 y;
+            whole = whole ∙ ap (λ (l : List ℕ). wordOf k ++ l) (newline-last t (eqb-true last 10 x));
+          },
+          refl,
+        )
 
 asked-asks : (k : Kind) (s : List ℕ) {r : Request} → r ≡ askedOf (wordOf k) (isCube k) s → r .ok ≡ true → Asks (kindOf (r .cube)) (r .value) s
 unfolding askedOf

@@ -2,7 +2,7 @@
 use mathlib.Core.Path.{_≡_, refl, sym, _∙_, ap}
 use mathlib.Core.Bool.{Bool, true, false}
 use mathlib.Core.List.{List, [], _∷_, _++_, append-assoc, append-nil}
-use Prim.Native.Nat.{ℕ, zero, suc, _+_, _*_, _/_, _%_, _^_, _≤_, _<_}
+use Prim.Native.Nat.{ℕ, zero, suc, _+_, _/_, _%_, _^_, _≤_, _<_}
 use native.Mathlib.Nat.{div-lt-self, div-add-mod, mod-lt, div-lt-iff-lt-mul, not-suc-le-zero, lt-of-lt-of-le, pow-suc}
 use native.Mathlib.Omega.{arith}
 use lib.Dec.{ltb, lit<, lit≤}
@@ -71,7 +71,7 @@ pub text-digits : (n : ℕ) → IsDigits (textOf n)
 text-digits = by-tens (λ n. IsDigits (textOf n))
     (λ n h. rw (text-short n h) (omega arith, omega arith, tt))
     (λ n h d. rw (text-long n h)
-      (digits-append (textOf (n / 10)) (48 + n % 10) d (omega arith) (omega (arith, mod-lt n {m = 10} (lit< tt)))))
+    (digits-append (textOf (n / 10)) (48 + n % 10) d (omega arith) (omega (arith, mod-lt n {m = 10} (lit< tt)))))
 
 -- it has a digit
 pub text-some : (n : ℕ) → 1 ≤ length (textOf n)
@@ -87,8 +87,8 @@ no-leading-zero n e = (zero-only n e, ap textOf (zero-only n e) ∙ text-short 0
     zero-only = by-tens (λ n. getD (textOf n) 0 0 ≡ 48 → n ≡ 0)
         (λ n h e. omega (arith, rw (text-short n h) at e))
         (λ n h below e.
-          let z = below (sym (List·getD-append (textOf (n / 10)) _ 0 0 (text-some (n / 10))) ∙ (rw (text-long n h) at e)) in
-          omega (arith, div-add-mod n 10, mod-lt n {m = 10} (lit< tt)))
+        let z = below (sym (List·getD-append (textOf (n / 10)) _ 0 0 (text-some (n / 10))) ∙ (rw (text-long n h) at e)) in
+        omega (arith, div-add-mod n 10, mod-lt n {m = 10} (lit< tt)))
 
 -- a number below 10 ^ (k + 1) has at most k + 1 digits
 pub text-length : (k n : ℕ) → n < 10 ^ suc k → length (textOf n) ≤ suc k

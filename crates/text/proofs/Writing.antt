@@ -1,12 +1,11 @@
 -- Laws on writes: one that fits, one that does not, and two in a row. Assumes nothing.
 use mathlib.Core.Path.{_≡_, refl, sym, _∙_, ap, subst}
 use mathlib.Core.Bool.{Bool, true, false}
-use mathlib.Core.List.{List, [], _∷_, _++_, append-assoc}
+use mathlib.Core.List.{List, _++_, append-assoc}
 use Prim.Native.Nat.{ℕ, _+_, _≤_, _<_}
 use native.Mathlib.Nat.{add-assoc}
 use native.Mathlib.Numerals.{add-one}
 use native.Mathlib.Omega.{arith}
-use lib.Dec.{leb}
 use lib.ListN.{length, getD, take, drop, set, length-append, length-set}
 use lib.Seq.{take-length, paste, paste-zero, paste-suc, length-paste, take-paste, drop-paste, drop-drop}
 use borrow.Author.Tests.{le-leb, lt-leb, leb-true, leb-false}
@@ -84,7 +83,7 @@ pub two-writes : (old : List ℕ) (at : ℕ) (a b : List ℕ) → at + length (a
 two-writes old at a b h =
     pasted-fits (pasted old at a) next b (omega (arith, length-append a b, length-pasted old at a))
     ∙ rw (pasted-paste old at a first, take-paste old at a (length a) (omega arith) (omega arith), behind, take-length a)
-      (rw (length-append, ← add-assoc) (simp append-assoc))
+    (rw (length-append, ← add-assoc) (simp append-assoc))
     ∙ sym (pasted-fits old at (a ++ b) h)
   where
     next : ℕ

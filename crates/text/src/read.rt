@@ -60,8 +60,5 @@ pub fn read_decimal(s: &[u8], most_digits: usize, most: u64) -> Decimal
         value = next.value;
         i += 1;
     }
-    Decimal {
-        ok: true,
-        value,
-    }
+    Decimal { ok: true, value }
 }

@@ -2,16 +2,12 @@
 -- bytes that are left. Assumes nothing.
 use mathlib.Core.Path.{sym}
 use Prim.Native.Nat.{_-_}
-use native.Mathlib.Omega.{arith}
 use borrow.Author.Needs.{needs}
 use borrow.Author.Tests.{not-true, not-false}
 use lib.ListN.{length}
 use Rattle.text.proofs.Reading.{too-short, too-long, Walk, walk-begins, walk-on, walk-stops, walk-ends}
 use Rattle.text.proofs.read.read_decimal.Statement.{statement}
 use Rattle.text.proofs.read.read_decimal.Tie as tie
-use Rattle.text.proofs.read.read_decimal.Reads as reads
-use Rattle.text.proofs.read.read_decimal.Lts as lts
-use Rattle.text.proofs.read.next_value.Reads as next-value-reads
 
 abbrev Inv-loop : tie.InvT-loop
 Inv-loop s most-digits most none value₀ i₀ value i = Walk s most-digits most i value

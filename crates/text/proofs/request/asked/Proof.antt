@@ -11,10 +11,6 @@ use Rattle.text.proofs.Reading.{accepted}
 use Rattle.text.proofs.Requests.{no-word, word-alone, no-newline, no-number, numbered-line}
 use Rattle.text.proofs.request.asked.Statement.{statement}
 use Rattle.text.proofs.request.asked.Tie as tie
-use Rattle.text.proofs.request.asked.Reads as reads
-use Rattle.text.proofs.request.asked.Lts as lts
-use Rattle.text.proofs.read.read_decimal.Reads as read-decimal-reads
-use Rattle.text.proofs.request.starts_with.Reads as starts-with-reads
 
 other-word : tie.Need-returns
 other-word c = sym (no-word _ _ _ (sym (c .before .starts-with .ensures) ∙ not-true _ (c .if1 .taken)))

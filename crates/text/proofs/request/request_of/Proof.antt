@@ -1,5 +1,4 @@
 -- `text::request::request_of` meets its contract: the first answer, or the second. Assumes nothing.
-use mathlib.Core.Path.{sym, _∙_, ap}
 use borrow.Author.Needs.{needs}
 use Rattle.text.proofs.Requests.{first-asked, second-asked}
 use Rattle.text.proofs.request.request_of.Statement.{statement}

@@ -6,8 +6,6 @@ use lib.ListN.{length}
 use Rattle.text.proofs.Requests.{Matches, match-begins, match-on, match-short, match-differs, match-ends}
 use Rattle.text.proofs.request.starts_with.Statement.{statement}
 use Rattle.text.proofs.request.starts_with.Tie as tie
-use Rattle.text.proofs.request.starts_with.Reads as reads
-use Rattle.text.proofs.request.starts_with.Lts as lts
 
 abbrev Inv-loop : tie.InvT-loop
 Inv-loop s word i₀ i = Matches word s i

@@ -8,9 +8,6 @@ use lib.ListN.{length-set}
 use Rattle.text.proofs.Spelling.{Spelled, spell-begins, spell-room, spell-place, spell-on, spell-ends}
 use Rattle.text.proofs.write.spell.Statement.{statement}
 use Rattle.text.proofs.write.spell.Tie as tie
-use Rattle.text.proofs.write.spell.Reads as reads
-use Rattle.text.proofs.write.spell.Lts as lts
-use Rattle.text.proofs.write.digit.Reads as digit-reads
 
 abbrev Inv-loop : tie.InvT-loop
 Inv-loop n text₀ from₀ rest₀ text from rest = Spelled n text from rest

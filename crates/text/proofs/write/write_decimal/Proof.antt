@@ -4,10 +4,6 @@ use Rattle.text.proofs.Spelling.{digits-part}
 use Rattle.text.proofs.Writing.{wrote-same}
 use Rattle.text.proofs.write.write_decimal.Statement.{statement}
 use Rattle.text.proofs.write.write_decimal.Tie as tie
-use Rattle.text.proofs.write.write_decimal.Reads as reads
-use Rattle.text.proofs.write.write_decimal.Lts as lts
-use Rattle.text.proofs.write.spell.Reads as spell-reads
-use Rattle.text.proofs.write.write_bytes.Reads as write-bytes-reads
 
 returns : tie.Need-returns
 returns c =
