@@ -1,6 +1,5 @@
 -- What the calls answer, for every value: the promises that the contracts cite.
 use mathlib.Core.Path.{_≡_}
-use mathlib.Core.Bool.{Bool, false}
 use Prim.Native.Nat.{ℕ, _+_, _-_, _≤_, _<_}
 use Rattle.defs.specs.Kinds.{Kind, Width, pow}
 use Rattle.defs.specs.Roots.{IsRoot, RootRem}
@@ -41,8 +40,8 @@ pub record Fixed (k : Kind) (n start root rest steps : ℕ) : Type 0 where
 
 -- a full call before its rest is settled: the root, shifted back, beside rest, start and steps of the value brought to its top bits.
 -- Where nothing was shifted that rest is the value's own
-pub record Brought (k : Kind) (w : Width) (n : ℕ) (shifted : Bool) (root rest start steps : ℕ) : Type 0 where
+pub record Brought (k : Kind) (w : Width) (n shift root rest start steps : ℕ) : Type 0 where
   pub is-root : IsRoot k n root
-  pub own-rest : shifted ≡ false → rest ≡ n - pow k root
+  pub own-rest : shift ≡ 0 → rest ≡ n - pow k root
   pub is-start : start ≡ startOf k w (raised k w n)
   pub is-steps : steps ≡ stepsOf k w (raised k w n)

@@ -1,10 +1,7 @@
 -- A full call from the normalised call on its value brought to the top bits. Assumes nothing.
 use mathlib.Core.Path.{_≡_, refl}
-use mathlib.Core.Bool.{Bool, false, not}
 use Prim.Native.Nat.{ℕ, _*_, _-_, _/_, _%_, _^_, _<_}
 use native.Mathlib.Nat.{mul-one, zero-div, div-one}
-use lib.Dec.{eqb}
-use borrow.Author.Tests.{not-false, eqb-true}
 use Rattle.defs.specs.Kinds.{Kind, Width, pow, degree, bitsOf}
 use Rattle.defs.specs.Roots.{RootRem}
 use Rattle.defs.specs.Cells.{shiftOf, raised}
@@ -21,18 +18,18 @@ same-rest k w n {top} {left} a e = rw (e, zero-div, div-one) (rw (e, mul-one) at
 -- what the normalised call on the shifted value gives
 pub brought : (k : Kind) (w : Width) → Wide w → {n refusal top left start steps : ℕ} → 0 < n → n < 2 ^ bitsOf w →
     Normalised k w ((n * 2 ^ shiftOf k w n) % 2 ^ bitsOf w) refusal top left start steps →
-    Brought k w n (not (eqb (shiftOf k w n) 0)) (top / 2 ^ (shiftOf k w n / degree k)) left start steps
+    Brought k w n (shiftOf k w n) (top / 2 ^ (shiftOf k w n / degree k)) left start steps
 brought k w v {n} p h call =
     let s = shifted k w v p h in
     let a = (rw (s .raises) at call) .from-bound (s .is-normal .from-bound) in
     record {
       is-root = root-shifted-back k w (a .root-rem .is-root);
-      own-rest = λ e. same-rest k w n (a .root-rem) (eqb-true (shiftOf k w n) 0 (not-false (eqb (shiftOf k w n) 0) e));
+      own-rest = same-rest k w n (a .root-rem);
       is-start = a .is-start;
       is-steps = a .is-steps;
     }
 
 -- with the rest worked out anew, or its own, that is the full answer
-pub settled : (k : Kind) (w : Width) {n : ℕ} {b : Bool} {root left rest start steps : ℕ} → (n ≡ 0 → ⊥) →
-    Brought k w n b root left start steps → rest ≡ n - pow k root → Full k w n root rest start steps
+pub settled : (k : Kind) (w : Width) {n shift root left rest start steps : ℕ} → (n ≡ 0 → ⊥) →
+    Brought k w n shift root left start steps → rest ≡ n - pow k root → Full k w n root rest start steps
 settled k w p a e = full-raised k w p (record { is-root = a .is-root; is-rest = e }) (a .is-start) (a .is-steps)

@@ -23,7 +23,7 @@ const ZERO: RootRem16 = RootRem16 {
 
 // The normalised answer with its root shifted back. Where something was shifted, its rest is another value's.
 struct Brought16 {
-    shifted: bool,
+    shift: u32,
     root: u8,
     rest: u16,
     start: u8,
@@ -33,14 +33,14 @@ struct Brought16 {
 // The shift is the count of leading zeros, lowered to an even number.
 fn brought_sqrt16(n: u16) -> Brought16
     requires { ⌜ 0 < n ⌝ }
-    ensures { λ r. ⌜ Brought square u16 n (r .shifted) (r .root) (r .rest) (r .start) (r .steps) ⌝ }
+    ensures { λ r. ⌜ Brought square u16 n (r .shift) (r .root) (r .rest) (r .start) (r .steps) ⌝ }
 {
     let zeros = u16::leading_zeros(n);
     let shift = zeros - zeros % 2;
     let s = normalized_sqrt_rem(n << shift);
     let root = s.root >> (shift / 2);
     Brought16 {
-        shifted: shift != 0,
+        shift: shift,
         root: root,
         rest: s.rest,
         start: s.start,
@@ -55,7 +55,7 @@ pub fn sqrt_rem(n: u16) -> RootRem16
         return ZERO;
     }
     let s = brought_sqrt16(n);
-    if !s.shifted {
+    if s.shift == 0 {
         return RootRem16 {
             root: s.root,
             rest: s.rest,
@@ -84,14 +84,14 @@ pub fn sqrt(n: u16) -> u8
 // The shift is the count of leading zeros, lowered to a multiple of 3.
 fn brought_cbrt16(n: u16) -> Brought16
     requires { ⌜ 0 < n ⌝ }
-    ensures { λ r. ⌜ Brought cube u16 n (r .shifted) (r .root) (r .rest) (r .start) (r .steps) ⌝ }
+    ensures { λ r. ⌜ Brought cube u16 n (r .shift) (r .root) (r .rest) (r .start) (r .steps) ⌝ }
 {
     let zeros = u16::leading_zeros(n);
     let shift = zeros - zeros % 3;
     let c = normalized_cbrt_rem(n << shift);
     let root = c.root >> (shift / 3);
     Brought16 {
-        shifted: shift != 0,
+        shift: shift,
         root: root,
         rest: c.rest,
         start: c.start,
@@ -106,7 +106,7 @@ pub fn cbrt_rem(n: u16) -> RootRem16
         return ZERO;
     }
     let c = brought_cbrt16(n);
-    if !c.shifted {
+    if c.shift == 0 {
         return RootRem16 {
             root: c.root,
             rest: c.rest,

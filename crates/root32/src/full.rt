@@ -23,7 +23,7 @@ const ZERO: RootRem32 = RootRem32 {
 
 // The normalised answer with its root shifted back. Where something was shifted, its rest is another value's.
 struct Brought32 {
-    shifted: bool,
+    shift: u32,
     root: u16,
     rest: u32,
     start: u16,
@@ -33,14 +33,14 @@ struct Brought32 {
 // The shift is the count of leading zeros, lowered to an even number.
 fn brought_sqrt32(n: u32) -> Brought32
     requires { ⌜ 0 < n ⌝ }
-    ensures { λ r. ⌜ Brought square u32 n (r .shifted) (r .root) (r .rest) (r .start) (r .steps) ⌝ }
+    ensures { λ r. ⌜ Brought square u32 n (r .shift) (r .root) (r .rest) (r .start) (r .steps) ⌝ }
 {
     let zeros = u32::leading_zeros(n);
     let shift = zeros - zeros % 2;
     let s = normalized_sqrt_rem(n << shift);
     let root = s.root >> (shift / 2);
     Brought32 {
-        shifted: shift != 0,
+        shift: shift,
         root: root,
         rest: s.rest,
         start: s.start,
@@ -55,7 +55,7 @@ pub fn sqrt_rem(n: u32) -> RootRem32
         return ZERO;
     }
     let s = brought_sqrt32(n);
-    if !s.shifted {
+    if s.shift == 0 {
         return RootRem32 {
             root: s.root,
             rest: s.rest,
@@ -84,14 +84,14 @@ pub fn sqrt(n: u32) -> u16
 // The shift is the count of leading zeros, lowered to a multiple of 3.
 fn brought_cbrt32(n: u32) -> Brought32
     requires { ⌜ 0 < n ⌝ }
-    ensures { λ r. ⌜ Brought cube u32 n (r .shifted) (r .root) (r .rest) (r .start) (r .steps) ⌝ }
+    ensures { λ r. ⌜ Brought cube u32 n (r .shift) (r .root) (r .rest) (r .start) (r .steps) ⌝ }
 {
     let zeros = u32::leading_zeros(n);
     let shift = zeros - zeros % 3;
     let c = normalized_cbrt_rem(n << shift);
     let root = c.root >> (shift / 3);
     Brought32 {
-        shifted: shift != 0,
+        shift: shift,
         root: root,
         rest: c.rest,
         start: c.start,
@@ -106,7 +106,7 @@ pub fn cbrt_rem(n: u32) -> RootRem32
         return ZERO;
     }
     let c = brought_cbrt32(n);
-    if !c.shifted {
+    if c.shift == 0 {
         return RootRem32 {
             root: c.root,
             rest: c.rest,

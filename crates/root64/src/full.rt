@@ -23,7 +23,7 @@ const ZERO: RootRem64 = RootRem64 {
 
 // The normalised answer with its root shifted back. Where something was shifted, its rest is another value's.
 struct Brought64 {
-    shifted: bool,
+    shift: u32,
     root: u32,
     rest: u64,
     start: u32,
@@ -33,14 +33,14 @@ struct Brought64 {
 // The shift is the count of leading zeros, lowered to an even number.
 fn brought_sqrt64(n: u64) -> Brought64
     requires { ⌜ 0 < n ⌝ }
-    ensures { λ r. ⌜ Brought square u64 n (r .shifted) (r .root) (r .rest) (r .start) (r .steps) ⌝ }
+    ensures { λ r. ⌜ Brought square u64 n (r .shift) (r .root) (r .rest) (r .start) (r .steps) ⌝ }
 {
     let zeros = u64::leading_zeros(n);
     let shift = zeros - zeros % 2;
     let s = normalized_sqrt_rem(n << shift);
     let root = s.root >> (shift / 2);
     Brought64 {
-        shifted: shift != 0,
+        shift: shift,
         root: root,
         rest: s.rest,
         start: s.start,
@@ -55,7 +55,7 @@ pub fn sqrt_rem(n: u64) -> RootRem64
         return ZERO;
     }
     let s = brought_sqrt64(n);
-    if !s.shifted {
+    if s.shift == 0 {
         return RootRem64 {
             root: s.root,
             rest: s.rest,
@@ -84,14 +84,14 @@ pub fn sqrt(n: u64) -> u32
 // The shift is the count of leading zeros, lowered to a multiple of 3.
 fn brought_cbrt64(n: u64) -> Brought64
     requires { ⌜ 0 < n ⌝ }
-    ensures { λ r. ⌜ Brought cube u64 n (r .shifted) (r .root) (r .rest) (r .start) (r .steps) ⌝ }
+    ensures { λ r. ⌜ Brought cube u64 n (r .shift) (r .root) (r .rest) (r .start) (r .steps) ⌝ }
 {
     let zeros = u64::leading_zeros(n);
     let shift = zeros - zeros % 3;
     let c = normalized_cbrt_rem(n << shift);
     let root = c.root >> (shift / 3);
     Brought64 {
-        shifted: shift != 0,
+        shift: shift,
         root: root,
         rest: c.rest,
         start: c.start,
@@ -106,7 +106,7 @@ pub fn cbrt_rem(n: u64) -> RootRem64
         return ZERO;
     }
     let c = brought_cbrt64(n);
-    if !c.shifted {
+    if c.shift == 0 {
         return RootRem64 {
             root: c.root,
             rest: c.rest,

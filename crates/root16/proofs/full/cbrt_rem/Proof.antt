@@ -2,7 +2,6 @@
 use mathlib.Core.Path.{refl}
 use native.Mathlib.Omega.{arith}
 use borrow.Author.Needs.{needs}
-use borrow.Author.Tests.{not-true}
 use Rattle.defs.specs.Kinds.{cube, u16}
 use Rattle.laws.proofs.Powers.{square-most}
 use Rattle.laws.proofs.Bills.{full-zero}
@@ -13,7 +12,7 @@ use Rattle.root16.proofs.full.cbrt_rem.Tie as tie
 own-rest : tie.Need-returns-2
 own-rest c =
     let a = c .before .before .brought-cbrt16 in
-    settled cube u16 (c .before .before .before .if1 .left) (a .ensures) (a .ensures .own-rest (not-true (a .result .shifted) (c .if2 .taken)))
+    settled cube u16 (c .before .before .before .if1 .left) (a .ensures) (a .ensures .own-rest (c .if2 .taken))
 
 rest-anew : tie.Need-returns-3
 rest-anew c =

@@ -1,7 +1,6 @@
 -- `root16::full::sqrt_rem` meets its contract: the value 0, its own rest, and the rest worked out anew. Assumes nothing.
 use mathlib.Core.Path.{refl}
 use borrow.Author.Needs.{needs}
-use borrow.Author.Tests.{not-true}
 use Rattle.defs.specs.Kinds.{square, u16}
 use Rattle.laws.proofs.Bills.{full-zero}
 use Rattle.laws.proofs.Full.{settled}
@@ -11,7 +10,7 @@ use Rattle.root16.proofs.full.sqrt_rem.Tie as tie
 own-rest : tie.Need-returns-2
 own-rest c =
     let a = c .before .before .brought-sqrt16 in
-    settled square u16 (c .before .before .before .if1 .left) (a .ensures) (a .ensures .own-rest (not-true (a .result .shifted) (c .if2 .taken)))
+    settled square u16 (c .before .before .before .if1 .left) (a .ensures) (a .ensures .own-rest (c .if2 .taken))
 
 rest-anew : tie.Need-returns-3
 rest-anew c =

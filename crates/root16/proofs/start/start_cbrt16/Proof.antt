@@ -1,4 +1,5 @@
 -- `root16::start::start_cbrt16` meets its contract: it is S of the scope document, letter by letter. Assumes nothing.
+use native.Mathlib.Omega.{arith}
 use borrow.Author.Needs.{needs}
 use Rattle.defs.specs.Starts.Cube16.{q, r, S}
 use Rattle.starts.proofs.Cube16.{safe}
@@ -21,7 +22,7 @@ unfolding r
 sub-result c =
     let at-start = c .before .before .before in
     rw (c .scaled-square16 .ensures, c .before .rcbrt-entry .ensures, c .before .before .place-cbrt16 .ensures)
-    (safe (at-start .args .n) (at-start .pre) (at-start .fits .n .fits) .at-least-one)
+    (omega (arith, safe (at-start .args .n) (at-start .pre) (at-start .fits .n .fits) .at-least-one))
 
 cast-result : tie.Need-cast-result
 unfolding r S

@@ -12,14 +12,14 @@ unfolding top
 sub-result c =
     let s = c .before in
     let ten = rw (le-leb (2 ^ 30) (s .args .n) (c .if1 .taken)) at (safe (s .args .n) (s .pre .0) (s .fits .n .fits) .at-least-ten) in
-    rw (s .pre .1) ten
+    rw (s .pre .1) (omega (arith, ten))
 
 sub-result-2 : tie.Need-sub-result-2
 unfolding top
 sub-result-2 c =
     let s = c .before in
     let ten = rw (lt-leb (2 ^ 30) (s .args .n) (c .if1 .left)) at (safe (s .args .n) (s .pre .0) (s .fits .n .fits) .at-least-ten) in
-    rw (s .pre .1) ten
+    rw (s .pre .1) (omega (arith, ten))
 
 top-set : tie.Need-returns
 unfolding top r

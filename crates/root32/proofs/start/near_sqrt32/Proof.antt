@@ -1,4 +1,5 @@
 -- `root32::start::near_sqrt32` meets its contract: a of the scope document, from r. Assumes nothing.
+use native.Mathlib.Omega.{arith}
 use borrow.Author.Needs.{needs}
 use Rattle.defs.specs.Starts.Square32.{h, a}
 use Rattle.starts.proofs.Square32.{safe}
@@ -10,7 +11,7 @@ unfolding h
 sub-result c =
     let s = c .before .before in
     rw (c .saturating-double16 .ensures, c .before .wmul16-hi .ensures, s .pre .1)
-    (safe (s .args .n) (s .pre .0) (s .fits .n .fits) .a-stays)
+    (omega (arith, safe (s .args .n) (s .pre .0) (s .fits .n .fits) .a-stays))
 
 returns : tie.Need-returns
 unfolding h a

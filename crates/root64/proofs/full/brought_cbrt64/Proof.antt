@@ -22,7 +22,7 @@ shift-fits c = at-top c .shift-fits
 
 back-fits : tie.Need-shr-root
 unfolding shiftOf
-back-fits c = at-top (c .before .before) .back-fits
+back-fits c = omega (arith, at-top (c .before .before) .back-fits)
 
 returns : tie.Need-returns
 unfolding shiftOf

@@ -12,14 +12,14 @@ unfolding top
 sub-result c =
     let s = c .before in
     let one = rw (le-leb (2 ^ 63) (s .args .n) (c .if1 .taken)) at (safe (s .args .n) (s .pre .0) (s .fits .n .fits) .at-least-one) in
-    rw (s .pre .1) one
+    rw (s .pre .1) (omega (arith, one))
 
 sub-result-2 : tie.Need-sub-result-2
 unfolding top
 sub-result-2 c =
     let s = c .before in
     let one = rw (lt-leb (2 ^ 63) (s .args .n) (c .if1 .left)) at (safe (s .args .n) (s .pre .0) (s .fits .n .fits) .at-least-one) in
-    rw (s .pre .1) one
+    rw (s .pre .1) (omega (arith, one))
 
 top-set : tie.Need-returns
 unfolding top r

@@ -1,4 +1,5 @@
 -- `root64::start::near_sqrt64` meets its contract: a of the scope document, from r. Assumes nothing.
+use native.Mathlib.Omega.{arith}
 use borrow.Author.Needs.{needs}
 use Rattle.defs.specs.Starts.Square64.{h, a}
 use Rattle.starts.proofs.Square64.{Safe, safe}
@@ -15,7 +16,7 @@ mul-result c = rw (c .wmul32-hi .ensures, c .before .pre .1) (record { fits = sa
 
 sub-result : tie.Need-sub-result
 unfolding h
-sub-result c = rw (c .wmul32-hi .ensures, c .before .pre .1) (safe-at (c .before) .a-stays)
+sub-result c = rw (c .wmul32-hi .ensures, c .before .pre .1) (omega (arith, safe-at (c .before) .a-stays))
 
 returns : tie.Need-returns
 unfolding h a
