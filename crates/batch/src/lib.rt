@@ -6,6 +6,7 @@ ghost use Rattle.batch.specs.Batch.{Batched};
 use crate::run::run_part;
 
 // What a batch answers. `refusal` is 0, or 2, 3 or 4 with zeros beside it.
+#[repr(C)]
 pub struct BatchAnswer {
     pub refusal: u8,
     pub done: usize,

@@ -6,21 +6,25 @@ ghost use Rattle.defs.specs.Kinds.{square, cube, pow, u8, u16, u32, u64};
 ghost use Rattle.defs.specs.Rebuild.{restLimit, Rebuilt};
 ghost use Rattle.rebuild.specs.Within.{Within};
 
+#[repr(C)]
 pub struct Rebuilt8 {
     pub refusal: u8,
     pub value: u8,
 }
 
+#[repr(C)]
 pub struct Rebuilt16 {
     pub refusal: u8,
     pub value: u16,
 }
 
+#[repr(C)]
 pub struct Rebuilt32 {
     pub refusal: u8,
     pub value: u32,
 }
 
+#[repr(C)]
 pub struct Rebuilt64 {
     pub refusal: u8,
     pub value: u64,

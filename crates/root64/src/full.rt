@@ -7,6 +7,7 @@ use crate::normalized::normalized_cbrt_rem;
 use crate::normalized::normalized_sqrt_rem;
 
 // What a full call answers: root and rest, and where its fix-up started and how many steps it took.
+#[repr(C)]
 pub struct RootRem64 {
     pub root: u32,
     pub rest: u64,

@@ -7,6 +7,7 @@ use crate::start::start_cbrt64;
 use crate::start::start_sqrt64;
 
 // What a normalised call answers. `refusal` is 0, or 1 with zeros beside it.
+#[repr(C)]
 pub struct NormalizedRootRem64 {
     pub refusal: u8,
     pub root: u32,

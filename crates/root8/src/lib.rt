@@ -11,6 +11,7 @@ use fix::fix_cbrt_error8;
 use fix::fix_sqrt_error8;
 
 // What a full call answers: root and rest, and where its fix-up started and how many steps it took.
+#[repr(C)]
 pub struct RootRem8 {
     pub root: u8,
     pub rest: u8,
