@@ -4,8 +4,8 @@ mod at32;
 mod at64;
 mod at8;
 
-// What the calls on a value answer: the full call, the root alone, and whether the normalised call answers or refuses
-// as it should. `known` is false where there are no such calls.
+// What the calls on a value answer: the full call, the root alone, whether the normalised call answers or refuses as it
+// should, and whether the value is rebuilt from its root and rest. `known` is false where there are no such calls.
 pub(crate) struct Found {
     pub(crate) known: bool,
     pub(crate) root: u64,
@@ -14,6 +14,7 @@ pub(crate) struct Found {
     pub(crate) steps: u64,
     pub(crate) alone: u64,
     pub(crate) normalised: bool,
+    pub(crate) rebuilt: bool,
 }
 
 pub(crate) fn call(degree: u64, width: u64, value: u64) -> Found {
@@ -37,5 +38,6 @@ pub(crate) fn call(degree: u64, width: u64, value: u64) -> Found {
         steps: 0,
         alone: 0,
         normalised: false,
+        rebuilt: false,
     }
 }

@@ -27,6 +27,9 @@ fn agrees(run: Run, i: u64, f: Found) -> bool {
     if !f.normalised {
         return false;
     }
+    if !f.rebuilt {
+        return false;
+    }
     if f.rest != std::num::wrapping_add_u64(run.rest, i) {
         return false;
     }

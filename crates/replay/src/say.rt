@@ -48,6 +48,15 @@ fn answer(root: u64, rest: u64, start: u64, steps: u64) {
     io::write_all(1, b"\n");
 }
 
+fn said(name: &[u8], agrees: bool) {
+    io::write_all(1, name);
+    if agrees {
+        io::write_all(1, b"agrees");
+    } else {
+        io::write_all(1, b"differs");
+    }
+}
+
 // The first difference: the i-th value of a run, what the list has of it, and what was found.
 pub(crate) fn difference(run: Run, i: u64, f: Found) {
     io::write_all(1, b"differs: ");
@@ -65,9 +74,7 @@ pub(crate) fn difference(run: Run, i: u64, f: Found) {
     answer(f.root, f.rest, f.start, f.steps);
     io::write_all(1, b"root alone=");
     number(f.alone);
-    if f.normalised {
-        io::write_all(1, b" normalised=agrees\n");
-    } else {
-        io::write_all(1, b" normalised=differs\n");
-    }
+    said(b" normalised=", f.normalised);
+    said(b" rebuilt=", f.rebuilt);
+    io::write_all(1, b"\n");
 }

@@ -16,7 +16,7 @@ fn normalised(a: RootRem16, m: NormalizedRootRem16, normal: bool) -> bool {
     }
 }
 
-fn found(a: RootRem16, alone: u8, normalised: bool) -> Found {
+fn found(a: RootRem16, alone: u8, normalised: bool, rebuilt: bool) -> Found {
     Found {
         known: true,
         root: a.root as u64,
@@ -25,6 +25,7 @@ fn found(a: RootRem16, alone: u8, normalised: bool) -> Found {
         steps: a.steps as u64,
         alone: alone as u64,
         normalised: normalised,
+        rebuilt: rebuilt,
     }
 }
 
@@ -33,10 +34,22 @@ pub(crate) fn call(degree: u64, value: u64) -> Found {
     if degree == 2 {
         let a = root16::sqrt_rem(n);
         let m = root16::normalized_sqrt_rem(n);
-        found(a, root16::sqrt(n), normalised(a, m, n >= 16384))
+        let back = rebuild::square16(a.root, a.rest);
+        found(
+            a,
+            root16::sqrt(n),
+            normalised(a, m, n >= 16384),
+            back.refusal == 0 && back.value == n,
+        )
     } else {
         let a = root16::cbrt_rem(n);
         let m = root16::normalized_cbrt_rem(n);
-        found(a, root16::cbrt(n), normalised(a, m, n >= 8192))
+        let back = rebuild::cube16(a.root, a.rest);
+        found(
+            a,
+            root16::cbrt(n),
+            normalised(a, m, n >= 8192),
+            back.refusal == 0 && back.value == n,
+        )
     }
 }

@@ -16,7 +16,7 @@ fn normalised(a: RootRem32, m: NormalizedRootRem32, normal: bool) -> bool {
     }
 }
 
-fn found(a: RootRem32, alone: u16, normalised: bool) -> Found {
+fn found(a: RootRem32, alone: u16, normalised: bool, rebuilt: bool) -> Found {
     Found {
         known: true,
         root: a.root as u64,
@@ -25,6 +25,7 @@ fn found(a: RootRem32, alone: u16, normalised: bool) -> Found {
         steps: a.steps as u64,
         alone: alone as u64,
         normalised: normalised,
+        rebuilt: rebuilt,
     }
 }
 
@@ -33,10 +34,22 @@ pub(crate) fn call(degree: u64, value: u64) -> Found {
     if degree == 2 {
         let a = root32::sqrt_rem(n);
         let m = root32::normalized_sqrt_rem(n);
-        found(a, root32::sqrt(n), normalised(a, m, n >= 0x4000_0000))
+        let back = rebuild::square32(a.root, a.rest);
+        found(
+            a,
+            root32::sqrt(n),
+            normalised(a, m, n >= 0x4000_0000),
+            back.refusal == 0 && back.value == n,
+        )
     } else {
         let a = root32::cbrt_rem(n);
         let m = root32::normalized_cbrt_rem(n);
-        found(a, root32::cbrt(n), normalised(a, m, n >= 0x2000_0000))
+        let back = rebuild::cube32(a.root, a.rest);
+        found(
+            a,
+            root32::cbrt(n),
+            normalised(a, m, n >= 0x2000_0000),
+            back.refusal == 0 && back.value == n,
+        )
     }
 }

@@ -16,7 +16,7 @@ fn normalised(a: RootRem64, m: NormalizedRootRem64, normal: bool) -> bool {
     }
 }
 
-fn found(a: RootRem64, alone: u32, normalised: bool) -> Found {
+fn found(a: RootRem64, alone: u32, normalised: bool, rebuilt: bool) -> Found {
     Found {
         known: true,
         root: a.root as u64,
@@ -25,6 +25,7 @@ fn found(a: RootRem64, alone: u32, normalised: bool) -> Found {
         steps: a.steps as u64,
         alone: alone as u64,
         normalised: normalised,
+        rebuilt: rebuilt,
     }
 }
 

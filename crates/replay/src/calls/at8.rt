@@ -2,7 +2,7 @@
 use crate::calls::Found;
 use root8::RootRem8;
 
-fn found(a: RootRem8, alone: u8) -> Found {
+fn found(a: RootRem8, alone: u8, rebuilt: bool) -> Found {
     Found {
         known: true,
         root: a.root as u64,
@@ -11,14 +11,19 @@ fn found(a: RootRem8, alone: u8) -> Found {
         steps: a.steps as u64,
         alone: alone as u64,
         normalised: true,
+        rebuilt: rebuilt,
     }
 }
 
 pub(crate) fn call(degree: u64, value: u64) -> Found {
     let n = (value % 256) as u8;
     if degree == 2 {
-        found(root8::sqrt_rem(n), root8::sqrt(n))
+        let a = root8::sqrt_rem(n);
+        let back = rebuild::square8(a.root, a.rest);
+        found(a, root8::sqrt(n), back.refusal == 0 && back.value == n)
     } else {
-        found(root8::cbrt_rem(n), root8::cbrt(n))
+        let a = root8::cbrt_rem(n);
+        let back = rebuild::cube8(a.root, a.rest);
+        found(a, root8::cbrt(n), back.refusal == 0 && back.value == n)
     }
 }
