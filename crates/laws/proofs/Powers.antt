@@ -3,7 +3,7 @@ use mathlib.Core.Path.{_≡_, refl}
 use mathlib.Core.Bool.{Bool, true, false}
 use mathlib.Core.Logic.{_⊎_, inl, inr}
 use Prim.Native.Nat.{ℕ, zero, suc, _+_, _*_, _≤_, _<_, zero-le}
-use native.Mathlib.Nat.{mul-le-mul, lt-of-not-le, lt-of-lt-of-le, lt-irrefl, le-refl, le-mul-of-pos-right, zero-lt-suc}
+use native.Mathlib.Nat.{mul-pos, mul-le-mul, lt-of-not-le, lt-of-lt-of-le, lt-irrefl, le-refl, le-mul-of-pos-right, zero-lt-suc}
 use native.Mathlib.Omega.{arith}
 use lib.Dec.{leb}
 use borrow.Author.Tests.{leb-true, leb-false}
@@ -39,3 +39,12 @@ pub square-most : (k : Kind) (s : ℕ) → s * s ≤ pow k s
 square-most square s = le-refl (s * s)
 square-most cube zero = zero-le
 square-most cube (suc s) = le-mul-of-pos-right (suc s * suc s) (zero-lt-suc s)
+
+-- the power of a product, and of what is not 0
+pub pow-product : (k : Kind) (a b : ℕ) → pow k (a * b) ≡ pow k a * pow k b
+pow-product square a b = omega arith
+pow-product cube a b = omega arith
+
+pub pow-positive : (k : Kind) {d : ℕ} → 0 < d → 0 < pow k d
+pow-positive square h = mul-pos h h
+pow-positive cube h = mul-pos (mul-pos h h) h

@@ -9,29 +9,25 @@ use lib.Pow.{pow-pos, pow-add, pow-mono, shl-lt}
 use Rattle.defs.specs.Kinds.{Kind, square, cube, Width, u8, u16, u32, u64, pow, degree, bitsOf, rootBits}
 use Rattle.defs.specs.Roots.{IsRoot}
 use Rattle.defs.specs.Cells.{IsNormal, bound, lowered, shiftOf, raised}
-use Rattle.laws.proofs.Powers.{rises}
+use Rattle.laws.proofs.Powers.{rises, pow-product, pow-positive}
 use Rattle.laws.proofs.Roots.{is-root, root-above}
 
--- the power of a product, and of a power of two
-pow-product : (k : Kind) (a b : ℕ) → pow k (a * b) ≡ pow k a * pow k b
-pow-product square a b = omega arith
-pow-product cube a b = omega arith
-
+-- the power of a power of two
 pow-two : (k : Kind) (j : ℕ) → pow k (2 ^ j) ≡ 2 ^ (degree k * j)
 pow-two square j = sym (pow-add 2 j j) ∙ ap (λ (m : ℕ). 2 ^ m) (omega arith)
 pow-two cube j = ap (λ (m : ℕ). m * 2 ^ j) (sym (pow-add 2 j j)) ∙ sym (pow-add 2 (j + j) j) ∙ ap (λ (m : ℕ). 2 ^ m) (omega arith)
 
 -- the root of n times the power of d, divided by d, is the root of n
-root-divided : (k : Kind) (n d a : ℕ) → 0 < d → 0 < pow k d → IsRoot k (n * pow k d) a → IsRoot k n (a / d)
-root-divided k n d a pos pos-power r =
+root-divided : (k : Kind) (n d a : ℕ) → 0 < d → IsRoot k (n * pow k d) a → IsRoot k n (a / d)
+root-divided k n d a pos r =
     let low : pow k (a / d) * pow k d ≤ n * pow k d = rw (← (pow-product k (a / d) d)) (le-trans (rises k (div-mul-le-self a d)) (r .fits)) in
     let next : a + 1 ≤ (a / d + 1) * d = omega (arith, lt-div-mul-add {a = a} {b = d} pos) in
     let high : n * pow k d < pow k (a / d + 1) * pow k d = rw (← (pow-product k (a / d + 1) d)) (lt-of-lt-of-le (root-above k r) (rises k next)) in
-    is-root k (le-of-mul-le-mul-right low pos-power) (lt-of-mul-lt-mul-right (pow k d) high)
+    is-root k (le-of-mul-le-mul-right low (pow-positive k pos)) (lt-of-mul-lt-mul-right (pow k d) high)
 
 pub root-back : (k : Kind) (n j a : ℕ) → IsRoot k (n * 2 ^ (degree k * j)) a → IsRoot k n (a / 2 ^ j)
 root-back k n j a r =
-    root-divided k n (2 ^ j) a (pow-pos j) (rw (pow-two k j) (pow-pos (degree k * j))) (rw (pow-two k j) r)
+    root-divided k n (2 ^ j) a (pow-pos j) (rw (pow-two k j) r)
 
 -- a value below 2^b that is not 0, shifted left by its leading zeros lowered to a multiple of d, has one of its top d bits set
 record Lifted (d b n s : ℕ) : Type 0 where

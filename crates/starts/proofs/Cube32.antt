@@ -12,10 +12,12 @@ use Rattle.defs.specs.Starts.Cube32.{top, g, p, t, y, r, S}
 use Rattle.laws.proofs.Powers.{below, rises}
 use Rattle.laws.proofs.Sweeps.{every}
 use Rattle.starts.specs.Near.{Near}
-use Rattle.starts.proofs.Runs.{run, at-run, ordered, Ordered, orders}
+use Rattle.starts.proofs.Ranges.{range, between}
+use Rattle.starts.proofs.Runs.{ordered, Ordered, orders}
 use Rattle.starts.proofs.Spans.{least, greatest, Spanned, halved-below}
 use Rattle.starts.proofs.Sides.{sided, at-side}
-use Rattle.starts.proofs.Guesses.{guess-fits, cube-fits}
+use Rattle.laws.proofs.Products.{guess-powers}
+use Rattle.starts.proofs.Guesses.{guess-fits}
 
 -- what t takes off 8192, and the letters y, r and S, each of the letters that it needs
 abbrev off : ℕ → ℕ → ℕ
@@ -49,7 +51,7 @@ test b p g = let y : ℕ = y-of p g in let r : ℕ = r-of b y in ordered (facts 
 
 -- the values of g of entry e at place i, as a test
 part : Bool → ℕ → ℕ → Bool
-part b i e = run (test b (256 + e)) 256 ((8 + i) * 256)
+part b i e = range (test b (256 + e)) 256 ((8 + i) * 256)
 
 -- it passes at each entry, the first 24 for the large numbers
 tested : T (every (λ i e. part (ltb i 24) i e) 0 rcbrtTab)
@@ -86,7 +88,7 @@ module _ (n : ℕ) (from : 2 ^ 29 ≤ n) (to : n < 2 ^ 32) where
       let i = g n / 256 - 8 in
       let s = spanned .0 in
       orders (facts (top n) (g n) (p n) (y n) (r n))
-      (at-run (test (top n) (p n)) 256 ((8 + i) * 256) (g n) (at-side part 24 tested i (spanned .1) (s .in-table)) (omega arith) (omega arith))
+      (between (test (top n) (p n)) 256 ((8 + i) * 256) (at-side part 24 tested i (spanned .1) (s .in-table)) (g n) (omega arith) (omega arith))
 
   -- the start is at most 3 below the root
   pub near : Near cube 3 n (S n)
@@ -107,7 +109,7 @@ module _ (n : ℕ) (from : 2 ^ 29 ≤ n) (to : n < 2 ^ 32) where
   safe =
       let k = known in
       let small : p n < 512 = guess-fits cube (g n / 256 - 8) (spanned .0 .in-table) in
-      let cubed : p n * p n * p n < 2 ^ 27 = cube-fits (p n) small in
+      let cubed : p n * p n * p n < 2 ^ 27 = guess-powers small .1 in
       let tight : t n ≤ 8192 = omega arith in
       record {
         from-first = spanned .0 .from-first;

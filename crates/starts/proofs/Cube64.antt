@@ -20,7 +20,8 @@ use Rattle.starts.specs.Near.{Near}
 use Rattle.starts.proofs.Runs.{ordered, Ordered, orders}
 use Rattle.starts.proofs.Spans.{least, greatest, Spanned, least-rises, greatest-below, halved-below, halved-some}
 use Rattle.starts.proofs.Sides.{sided}
-use Rattle.starts.proofs.Guesses.{in-table, guess-fits, cube-fits}
+use Rattle.laws.proofs.Products.{guess-powers}
+use Rattle.starts.proofs.Guesses.{in-table, guess-fits}
 use Rattle.starts.proofs.Newton.{phi}
 use Rattle.starts.proofs.CubeFinish.{Sharp, never-above, never-far}
 use Rattle.starts.proofs.CubeSteps.{most-x, centre, x-of, x-most, x-least, x-falls, deepest-small, y-least, y-most}
@@ -253,7 +254,7 @@ module _ (n : ℕ) (at-least : 2 ^ 61 ≤ n) (in-width : n < 2 ^ 64) where
         in-table = spanned .0 .in-table;
         g-fits = omega (arith, g-most);
         guess-small = small;
-        cube-small = omega (arith, cube-fits (p n) small);
+        cube-small = omega (arith, guess-powers small .1);
         first-fits = omega (arith, mul-le-mul-left (p n * p n * p n) (le-of-lt g-high), fitting .0);
         x-fits = x-below;
         second-fits = deepest-small (x n) (g n) (le-of-lt x-below) x-high;

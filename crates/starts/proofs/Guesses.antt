@@ -1,13 +1,12 @@
 -- Sizes of the tables' guesses: an entry is a byte, so a guess is from 256 to 511. Assumes nothing.
 use mathlib.Core.Bool.{Bool}
-use Prim.Native.Nat.{ℕ, _*_, _^_, _≤_, _<_}
+use Prim.Native.Nat.{ℕ, _<_}
 use native.Mathlib.Omega.{arith}
 use lib.Dec.{T, ltb, ltb→lt}
 use lib.ListN.{length}
 use Rattle.defs.specs.Kinds.{Kind, square, cube}
 use Rattle.defs.specs.Tables.{rsqrtTab, rcbrtTab, tableOf, entry}
 use Rattle.defs.specs.Starts.Letters.{guess}
-use Rattle.laws.proofs.Powers.{rises}
 use Rattle.laws.proofs.Sweeps.{every, at-each}
 
 -- how many places a table has
@@ -34,9 +33,3 @@ bytes cube = tt
 -- so a guess has 9 bits
 pub guess-fits : (k : Kind) (i : ℕ) → i < places k → guess k i < 512
 guess-fits k i h = omega (arith, ltb→lt (entry k i) 256 (at-each byte (tableOf k) (bytes k) i (in-table k i h)))
-
--- and its cube 27
-pub cube-fits : (p : ℕ) → p < 512 → p * p * p < 2 ^ 27
-cube-fits p h =
-    let most : p ≤ 511 = omega arith in
-    omega (arith, rises cube most)

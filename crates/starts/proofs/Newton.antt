@@ -4,12 +4,12 @@ use mathlib.Core.Path.{_≡_, refl, ap, subst₂}
 use mathlib.Core.Bool.{Bool, true, false}
 use Prim.Native.Nat.{ℕ, _+_, _*_, _-_, _≤_, _<_}
 use native.Mathlib.Nat.{le-refl, le-trans, le-of-lt, add-sub-of-le, sub-eq-zero-of-le}
-use native.Mathlib.Nat.{mul-pos, mul-right-comm, mul-le-mul-left, mul-le-mul-right, le-of-mul-le-mul-right}
+use native.Mathlib.Nat.{mul-right-comm, mul-le-mul-left, mul-le-mul-right, le-of-mul-le-mul-right}
 use native.Mathlib.Omega.{arith}
 use lib.Dec.{leb}
 use borrow.Author.Tests.{leb-true, leb-false}
 use Rattle.defs.specs.Kinds.{Kind, square, cube, pow, degree}
-use Rattle.laws.proofs.Powers.{rises}
+use Rattle.laws.proofs.Powers.{rises, pow-product, pow-positive}
 
 -- the k-th power of p·((k+1)c − v), times g, where v = p^k·g
 abbrev pub phi : Kind → ℕ → ℕ → ℕ
@@ -74,30 +74,21 @@ ends k c lo v hi m a b at-lo at-hi = by-size (leb v c) refl
     by-size true e = le-trans at-lo (phi-rises k c lo v a (leb-true v c e))
     by-size false e = le-trans at-hi (phi-falls k c v hi (le-of-lt (leb-false v c e)) b)
 
--- the power of a product, and a power of what is not 0
-power-of-product : (k : Kind) (a b : ℕ) → pow k (a * b) ≡ pow k a * pow k b
-power-of-product square a b = omega arith
-power-of-product cube a b = omega arith
-
-power-positive : (k : Kind) {d : ℕ} → 0 < d → 0 < pow k d
-power-positive square h = mul-pos h h
-power-positive cube h = mul-pos (mul-pos h h) h
-
 -- the power of a step y·D, times g; and of the right side, which is phi
 left-side : (k : Kind) (y D g : ℕ) → pow k (y * D) * g ≡ pow k y * g * pow k D
-left-side k y D g = rw (power-of-product k y D) (mul-right-comm (pow k y) (pow k D) g)
+left-side k y D g = rw (pow-product k y D) (mul-right-comm (pow k y) (pow k D) g)
 
 right-side : (k : Kind) (p c g : ℕ) → pow k (p * ((degree k + 1) * c - pow k p * g)) * g ≡ phi k c (pow k p * g)
 right-side k p c g =
     let Q = (degree k + 1) * c - pow k p * g in
-    rw (power-of-product k p Q) (mul-right-comm (pow k p) (pow k Q) g)
+    rw (pow-product k p Q) (mul-right-comm (pow k p) (pow k Q) g)
 
 -- a step y with y·D ≤ p·((k+1)c − p^k·g) is never too large: y^k·g ≤ m, where k^k·c^(k+1) ≤ m·D^k
 pub never-large : (k : Kind) (y D p c g m : ℕ) → 0 < D → y * D ≤ p * ((degree k + 1) * c - pow k p * g) →
     c * pow k (degree k * c) ≤ m * pow k D → pow k y * g ≤ m
 never-large k y D p c g m pos step enough =
     let raised = rw (left-side k y D g, right-side k p c g) at (mul-le-mul-right g (rises k step)) in
-    le-of-mul-le-mul-right (le-trans raised (le-trans (top k c (pow k p * g)) enough)) (power-positive k pos)
+    le-of-mul-le-mul-right (le-trans raised (le-trans (top k c (pow k p * g)) enough)) (pow-positive k pos)
 
 -- a step y with p·((k+1)c − p^k·g) ≤ y·D, where p^k·g lies from lo to hi, is never too small: m ≤ y^k·g, where m·D^k is at most
 -- phi at both ends
@@ -106,4 +97,4 @@ pub never-small : (k : Kind) (y D p c g m lo hi : ℕ) → 0 < D → p * ((degre
 never-small k y D p c g m lo hi pos step above below at-lo at-hi =
     let raised = rw (left-side k y D g, right-side k p c g) at (mul-le-mul-right g (rises k step)) in
     let least = ends k c lo (pow k p * g) hi (m * pow k D) above below at-lo at-hi in
-    le-of-mul-le-mul-right (le-trans least raised) (power-positive k pos)
+    le-of-mul-le-mul-right (le-trans least raised) (pow-positive k pos)
