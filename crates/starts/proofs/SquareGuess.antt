@@ -5,23 +5,13 @@ use Prim.Native.Nat.{ℕ, _+_, _*_, _-_, _/_, _^_, _≤_, _<_}
 use native.Mathlib.Nat.{mul-assoc, mul-sub, sub-add-cancel, mul-le-mul, mul-le-mul-left, le-of-mul-le-mul-right}
 use native.Mathlib.Nat.{div-mul-le-self, lt-div-mul-add}
 use native.Mathlib.Omega.{arith}
-use lib.ListN.{length}
-use lib.Dec.{T, ltb, lit≤, ltb→lt}
+use lib.Dec.{lit≤}
 use Rattle.defs.specs.Kinds.{square}
-use Rattle.defs.specs.Tables.{rsqrtTab, entry}
 use Rattle.defs.specs.Starts.Letters.{guess}
-use Rattle.laws.proofs.Sweeps.{every, at-each}
+use Rattle.laws.proofs.Products.{guess-powers}
 use Rattle.tables.proofs.Bracket.{bracketed}
+use Rattle.starts.proofs.Guesses.{in-table, guess-fits}
 use Rattle.starts.proofs.Newton.{never-large, never-small}
-
--- an entry is a byte, and there are 96
-bytes : T (every (λ i e. ltb e 256) 0 rsqrtTab)
-unfolding rsqrtTab
-bytes = tt
-
-in-table : (i : ℕ) → i < 96 → i < length rsqrtTab
-unfolding rsqrtTab
-in-table i h = h
 
 -- a guess p for g, with its place in the table: p² is near 2^48/g
 pub record Guessed (p g : ℕ) : Type 0 where
@@ -41,14 +31,13 @@ pub guessed : (g : ℕ) → 2 ^ 30 ≤ g → g < 2 ^ 32 → Guessed (guess squar
 guessed g low high =
     let i = g / 2 ^ 25 - 32 in
     let p = guess square i in
-    let inside = in-table i (omega arith) in
-    let rule = bracketed square i inside in
-    let byte : p ≤ 511 = omega (arith, ltb→lt (entry square i) 256 (at-each (λ i e. ltb e 256) rsqrtTab bytes i inside)) in
+    let rule = bracketed square i (in-table square i (omega arith)) in
+    let byte : p < 512 = guess-fits square i (omega arith) in
     let near = spread (p * p) i g (rule .below) (rule .above) (omega arith) (omega arith) in
     record {
       place = omega arith;
-      byte = omega (arith, byte);
-      cube-fits = omega (arith, mul-le-mul (mul-le-mul byte byte) byte);
+      byte = byte;
+      cube-fits = omega (arith, guess-powers byte .1);
       low = near .0;
       high = near .1;
     }
