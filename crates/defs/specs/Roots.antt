@@ -1,6 +1,6 @@
 -- Root and rest: the greatest a whose power is at most n, and n less that power.
 use mathlib.Core.Path.{_≡_}
-use mathlib.Core.Bool.{Bool, true, false, cond}
+use mathlib.Core.Bool.{true, false, cond}
 use Prim.Native.Nat.{ℕ, zero, suc, _+_, _*_, _-_, _/_, _^_, _≤_}
 use lib.Dec.{leb, eqb}
 use Rattle.defs.specs.Kinds.{Kind, pow, degree}

@@ -1,6 +1,6 @@
 -- The starts S, one to a cell. Each cell's file has the scope document's line, a letter at a time, each a number that n fixes.
 -- All divisions round down.
-use Prim.Native.Nat.{ℕ, _+_, _*_, _/_, _^_}
+use Prim.Native.Nat.{ℕ}
 use Rattle.defs.specs.Kinds.{Kind, square, cube, Width, u8, u16, u32, u64}
 use Rattle.defs.specs.Roots.{rootOf}
 pub mod Letters

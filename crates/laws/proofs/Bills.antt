@@ -1,16 +1,18 @@
 -- Starts and steps: what a route shows of its own start and count, and the answer that follows. Assumes nothing.
-use mathlib.Core.Path.{_≡_, refl, sym, _∙_, ap, ap₂}
-use mathlib.Core.Bool.{Bool, true, false, cond}
-use Prim.Native.Nat.{ℕ, _+_, _*_, _-_, _^_, _≤_}
+use mathlib.Core.Path.{_≡_, refl, sym, _∙_}
+use mathlib.Core.Bool.{Bool, true, false}
+use mathlib.Core.Logic.{_⊎_, inl, inr}
+use Prim.Native.Nat.{ℕ, _≤_, _<_}
 use native.Mathlib.Nat.{mul-one}
 use native.Mathlib.Omega.{arith}
-use lib.Dec.{leb, eqb}
+use lib.Dec.{eqb}
 use borrow.Author.Tests.{le-leb, eq-eqb, ne-eqb, eqb-true, eqb-false}
-use Rattle.defs.specs.Kinds.{Kind, square, cube, pow, Width, u8}
-use Rattle.defs.specs.Roots.{IsRoot, RootRem, rootOf}
+use Rattle.defs.specs.Kinds.{Kind, pow, Width, u8}
+use Rattle.defs.specs.Roots.{RootRem, rootOf}
 use Rattle.defs.specs.Starts.{S, start8}
-use Rattle.defs.specs.Cells.{startOf, stepsOf, shiftOf, raised, fullStart, fullSteps}
-use Rattle.defs.specs.Answers.{Full, Fixed}
+use Rattle.defs.specs.Cells.{bound, startOf, stepsOf, shiftOf, raised, fullStart, fullSteps}
+use Rattle.defs.specs.Answers.{Full, Fixed, Normalised}
+use Rattle.laws.proofs.Powers.{le-or-lt}
 use Rattle.laws.proofs.Roots.{one-root, one-answer, root-is, root-of-zero}
 
 -- where the power of S is at most n the start is S
@@ -24,6 +26,22 @@ pub one-full : {k : Kind} {w : Width} {n a b c d a′ b′ c′ d′ : ℕ} → 
 one-full {k} x y =
     let same = one-answer k (x .root-rem) (y .root-rem) in
     (same .0, same .1, x .is-start ∙ sym (y .is-start), x .is-steps ∙ sym (y .is-steps))
+
+-- nor a normalised call
+pub one-normalised : {k : Kind} {w : Width} {n a b c d e a′ b′ c′ d′ e′ : ℕ} → Normalised k w n a b c d e →
+    Normalised k w n a′ b′ c′ d′ e′ → (a ≡ a′) × (b ≡ b′) × (c ≡ c′) × (d ≡ d′) × (e ≡ e′)
+one-normalised {k} {w} {n} {a} {b} {c} {d} {e} {a′} {b′} {c′} {d′} {e′} x y = by-bound (le-or-lt (bound k w) n)
+  where
+    by-bound : (bound k w ≤ n) ⊎ (n < bound k w) → (a ≡ a′) × (b ≡ b′) × (c ≡ c′) × (d ≡ d′) × (e ≡ e′)
+    by-bound (inl h) =
+        let p = x .from-bound h in
+        let q = y .from-bound h in
+        let same = one-answer k (p .root-rem) (q .root-rem) in
+        (p .no-refusal ∙ sym (q .no-refusal), same .0, same .1, p .is-start ∙ sym (q .is-start), p .is-steps ∙ sym (q .is-steps))
+    by-bound (inr h) =
+        let p = x .below-bound h in
+        let q = y .below-bound h in
+        (p .is-number ∙ sym (q .is-number), p .no-root ∙ sym (q .no-root), p .no-rest ∙ sym (q .no-rest), p .no-start ∙ sym (q .no-start), p .no-steps ∙ sym (q .no-steps))
 
 -- the value 0 answers 0 throughout
 pub full-zero : (k : Kind) (w : Width) {n : ℕ} → n ≡ 0 → Full k w n 0 0 0 0

@@ -1,11 +1,11 @@
 -- A full call from the normalised call on its value brought to the top bits. Assumes nothing.
-use mathlib.Core.Path.{_≡_, refl}
+use mathlib.Core.Path.{_≡_}
 use Prim.Native.Nat.{ℕ, _*_, _-_, _/_, _%_, _^_, _<_}
 use native.Mathlib.Nat.{mul-one, zero-div, div-one}
 use Rattle.defs.specs.Kinds.{Kind, Width, pow, degree, bitsOf}
 use Rattle.defs.specs.Roots.{RootRem}
 use Rattle.defs.specs.Cells.{shiftOf, raised}
-use Rattle.defs.specs.Answers.{Normal, Normalised, Brought, Full}
+use Rattle.defs.specs.Answers.{Normalised, Brought, Full}
 use Rattle.laws.proofs.Bills.{full-raised}
 use Rattle.laws.proofs.Shift.{Wide, shifted, root-shifted-back}
 

@@ -4,7 +4,6 @@ use mathlib.Core.Bool.{Bool}
 use Prim.Native.Nat.{ℕ}
 use lib.Dec.{T, eqb, eqb→eq}
 use lib.Count.{leadingZeros}
-use Rattle.defs.specs.Kinds.{Kind, Width}
 use Rattle.defs.specs.Roots.{RootRem, rootOf, rootWithin, restOf}
 use Rattle.defs.specs.Tables.{rsqrtTab, rcbrtTab}
 use Rattle.defs.specs.Starts.{start8}

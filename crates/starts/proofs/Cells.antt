@@ -1,6 +1,6 @@
 -- Demand 3 at every cell: S is never above the root and never lowered, and each ceiling holds and is reached. Assumes nothing.
 use mathlib.Core.Path.{_≡_, refl}
-use Prim.Native.Nat.{ℕ, _+_, _^_, _≤_, _<_}
+use Prim.Native.Nat.{ℕ}
 use native.Mathlib.Nat.{add-zero}
 use lib.Dec.{lit≤, lit<}
 use Rattle.defs.specs.Kinds.{Kind, square, cube, Width, u8, u16, u32, u64}

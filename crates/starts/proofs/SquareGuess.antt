@@ -2,7 +2,7 @@
 -- bit or the one below it among 32. Assumes nothing.
 use mathlib.Core.Path.{_≡_, ap}
 use Prim.Native.Nat.{ℕ, _+_, _*_, _-_, _/_, _^_, _≤_, _<_}
-use native.Mathlib.Nat.{mul-assoc, mul-sub, sub-add-cancel, mul-le-mul, mul-le-mul-left, le-of-mul-le-mul-right}
+use native.Mathlib.Nat.{mul-assoc, mul-sub, sub-add-cancel, mul-le-mul-left, le-of-mul-le-mul-right}
 use native.Mathlib.Nat.{div-mul-le-self, lt-div-mul-add}
 use native.Mathlib.Omega.{arith}
 use lib.Dec.{lit≤}

@@ -1,5 +1,4 @@
 -- What the starts' formulas share: the high half of a product, and a table's guess.
-use mathlib.Core.Bool.{Bool, cond}
 use Prim.Native.Nat.{ℕ, _+_, _*_, _/_, _^_}
 use Rattle.defs.specs.Kinds.{Kind}
 use Rattle.defs.specs.Tables.{entry}

@@ -1,7 +1,7 @@
 -- `root16::start::start_cbrt16` meets its contract: it is S of the scope document, letter by letter. Assumes nothing.
 use native.Mathlib.Omega.{arith}
 use borrow.Author.Needs.{needs}
-use Rattle.defs.specs.Starts.Cube16.{q, r, S}
+use Rattle.defs.specs.Starts.Cube16.{r, S}
 use Rattle.starts.proofs.Cube16.{safe}
 use Rattle.root16.proofs.start.start_cbrt16.Statement.{statement}
 use Rattle.root16.proofs.start.start_cbrt16.Tie as tie

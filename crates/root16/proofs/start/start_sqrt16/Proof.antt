@@ -1,5 +1,4 @@
 -- `root16::start::start_sqrt16` meets its contract: it is S of the scope document, letter by letter. Assumes nothing.
-use native.Mathlib.Omega.{arith}
 use borrow.Author.Needs.{needs}
 use Rattle.defs.specs.Starts.Square16.{r, S}
 use Rattle.starts.proofs.Square16.{safe}

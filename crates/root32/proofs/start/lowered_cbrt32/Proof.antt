@@ -1,8 +1,8 @@
 -- `root32::start::lowered_cbrt32` meets its contract: r of the scope document, from y. Assumes nothing.
-use Prim.Native.Nat.{_^_, _≤_}
+use Prim.Native.Nat.{_^_}
 use native.Mathlib.Omega.{arith}
 use borrow.Author.Tests.{le-leb, lt-leb}
-use Rattle.defs.specs.Starts.Cube32.{top, y, r}
+use Rattle.defs.specs.Starts.Cube32.{top, r}
 use Rattle.starts.proofs.Cube32.{safe}
 use Rattle.root32.proofs.start.lowered_cbrt32.Statement.{statement}
 use Rattle.root32.proofs.start.lowered_cbrt32.Tie as tie

@@ -1,8 +1,8 @@
 -- `root32::start::rcbrt32` meets its contract: y of the scope document, letter by letter. Assumes nothing.
-use Prim.Native.Nat.{ℕ, _+_, _<_}
+use Prim.Native.Nat.{_+_}
 use native.Mathlib.Omega.{arith}
 use borrow.Author.Needs.{needs}
-use Rattle.defs.specs.Starts.Cube32.{g, p, t, y}
+use Rattle.defs.specs.Starts.Cube32.{p, t, y}
 use Rattle.laws.proofs.Products.{guess-powers}
 use Rattle.starts.proofs.Cube32.{Safe, safe}
 use Rattle.root32.proofs.start.rcbrt32.Statement.{statement}

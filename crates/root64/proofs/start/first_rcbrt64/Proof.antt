@@ -1,5 +1,5 @@
 -- `root64::start::first_rcbrt64` meets its contract: x of the scope document, from g. Assumes nothing.
-use Prim.Native.Nat.{ℕ, _+_}
+use Prim.Native.Nat.{_+_}
 use native.Mathlib.Omega.{arith}
 use borrow.Author.Needs.{needs}
 use Rattle.defs.specs.Starts.Cube64.{p, x}

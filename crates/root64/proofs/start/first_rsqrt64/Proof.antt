@@ -1,5 +1,5 @@
 -- `root64::start::first_rsqrt64` meets its contract: x of the scope document, letter by letter. Assumes nothing.
-use Prim.Native.Nat.{ℕ, _+_}
+use Prim.Native.Nat.{_+_}
 use native.Mathlib.Omega.{arith}
 use borrow.Author.Needs.{needs}
 use Rattle.defs.specs.Starts.Square64.{h, p, x}

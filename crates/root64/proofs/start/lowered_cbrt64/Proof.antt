@@ -1,8 +1,8 @@
 -- `root64::start::lowered_cbrt64` meets its contract: r of the scope document, from y. Assumes nothing.
-use Prim.Native.Nat.{_^_, _≤_}
+use Prim.Native.Nat.{_^_}
 use native.Mathlib.Omega.{arith}
 use borrow.Author.Tests.{le-leb, lt-leb}
-use Rattle.defs.specs.Starts.Cube64.{top, y, r}
+use Rattle.defs.specs.Starts.Cube64.{top, r}
 use Rattle.starts.proofs.Cube64.{safe}
 use Rattle.root64.proofs.start.lowered_cbrt64.Statement.{statement}
 use Rattle.root64.proofs.start.lowered_cbrt64.Tie as tie
