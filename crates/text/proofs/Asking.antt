@@ -2,17 +2,19 @@
 use mathlib.Core.Path.{_≡_, refl, sym, _∙_, ap}
 use mathlib.Core.Bool.{Bool, true, false, cond, and-eq-true-iff, false≢true, true≢false}
 use mathlib.Core.List.{List, [], _∷_, _++_}
-use Prim.Native.Nat.{ℕ, suc, _-_}
+use Prim.Native.Nat.{ℕ, suc, _-_, _^_, _<_}
 use native.Mathlib.Omega.{arith}
 use lib.Dec.{eqb}
 use lib.ListN.{length, getD, take, drop, length-append, drop-of-length-le}
 use lib.Seq.{drop-append-seam, take-append-seam, getD-append-seam, split-at}
 use borrow.Author.Tests.{eq-eqb, eqb-true}
 use Rattle.defs.specs.Kinds.{Kind, square, cube}
+use Rattle.text.specs.Decimal.{textOf}
 use Rattle.text.specs.Request.{wordOf, isCube, kindOf, numberOf, Asks, bad, good, startsWith, numbered, lineOf, askedOf, requestOf}
 use Rattle.text.specs.declared.request.Request.{Request}
 use Rattle.text.specs.declared.read.Decimal.{Decimal}
-use Rattle.text.proofs.Reading.{accepts, accepted}
+use Rattle.text.proofs.Reading.{accepts, accepted, reads-back}
+use Rattle.text.proofs.Texts.{text-length-32}
 use Rattle.text.proofs.Requests.{first-asked, second-asked}
 
 abbrev ok : Request → Bool
@@ -117,6 +119,10 @@ asks s e = by-test (first .ok) refl
     by-test : (p : Bool) → first .ok ≡ p → Asks (kindOf (requestOf s .cube)) (requestOf s .value) s
     by-test true x = asked-asks square s (sym (first-asked s refl x)) e
     by-test false x = asked-asks cube s (sym (second-asked s refl x refl)) e
+
+-- every u32 can be asked for, in either kind
+pub can-ask : (k : Kind) (n : ℕ) → n < 2 ^ 32 → Asks k n (wordOf k ++ (textOf n ++ (10 ∷ [])))
+can-ask k n h = record { digits = textOf n; reads = reads-back n 10 4294967295 (text-length-32 n h) (omega arith); whole = refl }
 
 -- an input asks for one thing at most
 pub one-request : (k l : Kind) {v w : ℕ} {s : List ℕ} → Asks k v s → Asks l w s → (k ≡ l) × (v ≡ w)

@@ -45,7 +45,9 @@ spell-on {n} {text} {from} {rest} {d} small h e s = record {
   is-long = length-set text (from - 1) _ ∙ s .is-long;
   in-text = omega (arith, s .in-text);
   so-far = rw (e, stored text from (48 + rest % 10) (spell-room small s) (omega (arith, s .is-long, s .in-text)))
-      (sym (append-assoc (textOf (rest / 10)) ((48 + rest % 10) ∷ []) (drop from text)) ∙ ap (λ (l : List ℕ). l ++ drop from text) (sym (text-long rest h)) ∙ s .so-far);
+      (sym (append-assoc (textOf (rest / 10)) ((48 + rest % 10) ∷ []) (drop from text))
+      ∙ ap (λ (l : List ℕ). l ++ drop from text) (sym (text-long rest h))
+      ∙ s .so-far);
 }
 
 pub spell-ends : {n : ℕ} {text : List ℕ} {from rest d : ℕ} → n < 2 ^ 64 → rest ≤ 9 → d ≡ 48 + rest → Spelled n text from rest →
@@ -55,5 +57,6 @@ spell-ends {n} {text} {from} {rest} {d} small h e s =
     ∙ ap (λ (l : List ℕ). l ++ drop from text) (sym (text-short rest (omega arith))) ∙ s .so-far
 
 -- the part of the text from the first digit on is the digits
-pub digits-part : (text : List ℕ) (from : ℕ) {digits : List ℕ} → length text ≡ 20 → drop from text ≡ digits → take (20 - from) (drop from text) ≡ digits
+pub digits-part : (text : List ℕ) (from : ℕ) {digits : List ℕ} → length text ≡ 20 → drop from text ≡ digits →
+    take (20 - from) (drop from text) ≡ digits
 digits-part text from h e = take-all (20 - from) (drop from text) (omega (arith, length-drop from text)) ∙ e

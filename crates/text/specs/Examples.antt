@@ -6,6 +6,7 @@ use Rattle.defs.specs.Kinds.{Kind}
 use Rattle.text.specs.Decimal.{textOf}
 use Rattle.text.specs.Request.{wordOf}
 
+-- the byte that ends a line
 abbrev newline : List ℕ
 newline = 10 ∷ []
 

@@ -21,10 +21,11 @@ abbrev pub answer : Bool → ℕ → Decimal
 answer true v = record { ok = true; value = v }
 answer false v = record { ok = false; value = 0 }
 
--- the byte is a digit, and all bytes of a text are
+-- the byte is a digit, as a test
 abbrev pub isDigit : ℕ → Bool
 isDigit b = leb 48 b && leb b 57
 
+-- every byte of the text is a digit, as a test
 abbrev pub allDigits : List ℕ → Bool
 allDigits [] = true
 allDigits (b ∷ s) = isDigit b && allDigits s

@@ -15,11 +15,12 @@ abbrev pub wordOf : Kind → List ℕ
 wordOf square = 115 ∷ 113 ∷ 117 ∷ 97 ∷ 114 ∷ 101 ∷ 32 ∷ []
 wordOf cube = 99 ∷ 117 ∷ 98 ∷ 101 ∷ 32 ∷ []
 
--- the kind as the answer's bool, and back
+-- the kind as the answer's bool
 abbrev pub isCube : Kind → Bool
 isCube square = false
 isCube cube = true
 
+-- the bool as a kind
 abbrev pub kindOf : Bool → Kind
 kindOf false = square
 kindOf true = cube
@@ -28,6 +29,7 @@ kindOf true = cube
 abbrev pub Number : List ℕ → ℕ → Type 0
 Number s v = Reads s 10 4294967295 v
 
+-- what a reader of that number answers
 abbrev pub numberOf : List ℕ → Decimal
 numberOf s = readOf s 10 4294967295
 
@@ -41,6 +43,7 @@ pub record Asks (k : Kind) (v : ℕ) (s : List ℕ) : Type 0 where
 abbrev pub bad : Request
 bad = record { ok = false; cube = false; value = 0 }
 
+-- a root is asked for: of a cube or a square, of the value
 abbrev pub good : Bool → ℕ → Request
 good c v = record { ok = true; cube = c; value = v }
 
@@ -62,7 +65,7 @@ lineOf c t = cond (eqb (getD t (length t - 1) 0) 10) (numbered c (numberOf (take
 unfoldable pub askedOf : List ℕ → Bool → List ℕ → Request
 askedOf word c s = cond (startsWith word s) (lineOf c (drop (length word) s)) bad
 
--- what the whole input asks. That it gives the kind and the value exactly if the input `Asks` for them is the theorem of proofs/Request
+-- what the whole input asks. That it gives the kind and the value exactly if the input `Asks` for them are the theorems `answers` and `asks`
 unfoldable pub requestOf : List ℕ → Request
 requestOf s =
     let first : Request = askedOf (wordOf square) false s in

@@ -16,10 +16,16 @@ abbrev μ-loop : tie.MeasureT-loop
 μ-loop s most-digits most none value₀ i₀ value i = length s - i
 
 no-digit : tie.Need-returns-3 Inv-loop μ-loop
-no-digit c = sym (walk-stops (c .before .before .before .before .before .loop .inv) (c .before .before .before .before .loop-test .taken) (c .before .before .next-value .ensures) (not-true _ (c .if3 .taken)))
+no-digit c =
+    let at-next = c .before .before in
+    let at-test = at-next .before .before in
+    sym (walk-stops (at-test .before .loop .inv) (at-test .loop-test .taken) (at-next .next-value .ensures) (not-true _ (c .if3 .taken)))
 
 loop-again : tie.Need-loop-again Inv-loop μ-loop
-loop-again c = walk-on (c .before .before .before .before .before .loop .inv) (c .before .before .before .before .loop-test .taken) (c .before .before .next-value .ensures) (not-false _ (c .if3 .left))
+loop-again c =
+    let at-next = c .before .before in
+    let at-test = at-next .before .before in
+    walk-on (at-test .before .loop .inv) (at-test .loop-test .taken) (at-next .next-value .ensures) (not-false _ (c .if3 .left))
 
 pub read-decimal-spec : {M : Type 1} → statement M
 read-decimal-spec =
