@@ -18,7 +18,7 @@ fn put_reply(out: &mut [u8], request: Request) -> Written
     put_answer(out, request.cube, request.value)
 }
 
-// The longest reply has 102 bytes. It is put together apart, so that an `out` too short for it stays as it was.
+// The reply is at most 128 bytes long. It is put together apart, so that an `out` too short for it stays as it was.
 pub fn reply(input: &[u8], out: &mut [u8]) -> Written
     ensures { λ r. ⌜ Wrote (now (out .entry)) 0 (replyOf (now (input .entry))) (now (out .exit)) r ⌝ }
 {
