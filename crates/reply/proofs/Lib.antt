@@ -1,0 +1,4 @@
+pub mod Putting
+pub mod Replies
+pub mod Lengths
+pub mod Held
