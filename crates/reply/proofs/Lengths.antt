@@ -2,14 +2,13 @@
 use mathlib.Core.Path.{_≡_, refl}
 use mathlib.Core.Bool.{Bool, true, false, cond}
 use mathlib.Core.List.{List, [], _∷_, _++_}
-use Prim.Native.Nat.{ℕ, _+_, _*_, _-_, _^_, _≤_, _<_}
-use native.Mathlib.Nat.{lt-of-lt-of-le, lt-of-le-of-lt}
+use Prim.Native.Nat.{ℕ, _+_, _-_, _^_, _≤_, _<_}
 use native.Mathlib.Omega.{arith}
 use lib.Dec.{eqb, lit<, lit≤}
 use lib.ListN.{length, length-append}
 use lib.Pow.{pow-pos}
 use borrow.Author.Tests.{eqb-false}
-use Rattle.defs.specs.Kinds.{Kind, square, cube, Width, u32, pow, bitsOf, rootBits}
+use Rattle.defs.specs.Kinds.{Kind, square, cube, Width, u32, bitsOf, rootBits}
 use Rattle.defs.specs.Roots.{rootOf, restOf}
 use Rattle.defs.specs.Starts.{S}
 use Rattle.defs.specs.Cells.{IsNormal, startOf, stepsOf, raised, fullStart, fullSteps}

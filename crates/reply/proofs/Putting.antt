@@ -1,12 +1,11 @@
 -- Laws on texts put into a list: two in a row are one text, and what a list with room then begins with. Assumes nothing.
-use mathlib.Core.Path.{_≡_, refl, _∙_, ap, subst}
-use mathlib.Core.Bool.{Bool, true, false}
+use mathlib.Core.Path.{_≡_, _∙_, ap, subst}
 use mathlib.Core.List.{List, [], _∷_, _++_}
 use Prim.Native.Nat.{ℕ, _+_, _≤_}
 use native.Mathlib.Omega.{arith}
 use lib.ListN.{length, take, length-append}
 use lib.Seq.{take-append-seam}
-use Rattle.text.specs.Writing.{fitsAt, wrote, Wrote}
+use Rattle.text.specs.Writing.{Wrote}
 use Rattle.text.specs.declared.write.Written.{Written}
 use Rattle.text.proofs.Writing.{length-pasted, pasted-fits, wrote-fits, writes-on}
 use Rattle.reply.specs.Lines.{line}

@@ -1,10 +1,9 @@
 -- What the output is for a good request, and for anything else. Assumes nothing.
-use mathlib.Core.Path.{_≡_, refl, sym}
+use mathlib.Core.Path.{_≡_, refl}
 use mathlib.Core.Bool.{Bool, true, false}
 use mathlib.Core.List.{List, _++_}
 use Prim.Native.Nat.{ℕ}
 use Rattle.defs.specs.Kinds.{Kind, square, cube, Width, u32}
-use Rattle.defs.specs.Roots.{rootOf, restOf}
 use Rattle.defs.specs.Answers.{Full}
 use Rattle.laws.proofs.Roots.{one-answer, answer-is}
 use Rattle.text.specs.Request.{Asks, kindOf, requestOf}

@@ -1,5 +1,5 @@
 -- The whole output of the program `root`, for every input.
-use mathlib.Core.Bool.{Bool, true, false, cond}
+use mathlib.Core.Bool.{cond}
 use mathlib.Core.List.{List, _++_}
 use Prim.Native.Nat.{ℕ}
 use Rattle.defs.specs.Kinds.{Kind, Width, u32}

@@ -1,7 +1,7 @@
 -- `cases::compare` is safe and ends: each turn passes two of the list's NULs, and counts one pair. Assumes nothing.
 use Prim.Native.Nat.{_-_, _≤_}
-use borrow.Author.Needs.{needs}
 use lib.ListN.{length}
+use borrow.Author.Needs.{needs}
 use Rattle.cases.proofs.compare.Statement.{statement}
 use Rattle.cases.proofs.compare.Tie as tie
 

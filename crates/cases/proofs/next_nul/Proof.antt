@@ -1,7 +1,7 @@
 -- `cases::next_nul` meets its contract. The loop's invariant: the place is not before the first. Assumes nothing.
 use Prim.Native.Nat.{_-_, _≤_}
-use borrow.Author.Needs.{needs}
 use lib.ListN.{length}
+use borrow.Author.Needs.{needs}
 use Rattle.cases.proofs.next_nul.Statement.{statement}
 use Rattle.cases.proofs.next_nul.Tie as tie
 

@@ -1,9 +1,9 @@
 -- `reply::put_reply` meets its contract: the seven lines, or `bad input`. Assumes nothing.
 use mathlib.Core.Path.{sym}
 use borrow.Author.Tests.{not-true, not-false}
+use borrow.Author.Needs.{needs}
 use Rattle.reply.proofs.Putting.{puts, puts-same}
 use Rattle.reply.proofs.Replies.{answer-good, answer-bad}
-use borrow.Author.Needs.{needs}
 use Rattle.reply.proofs.put_reply.Statement.{statement}
 use Rattle.reply.proofs.put_reply.Tie as tie
 

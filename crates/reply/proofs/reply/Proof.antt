@@ -1,14 +1,12 @@
 -- `reply::reply` meets its contract: what is handed on is the reply, put together in 128 bytes. Assumes nothing.
-use mathlib.Core.List.{List}
-use Prim.Native.Nat.{ℕ}
 use lib.Dec.{lit≤}
 use lib.ListN.{replicate}
+use borrow.Author.Needs.{needs}
 use denote.Ref.{now}
 use Rattle.text.specs.Writing.{Wrote}
 use Rattle.text.proofs.Writing.{wrote-same}
 use Rattle.reply.specs.Reply.{replyOf}
 use Rattle.reply.proofs.Held.{put-whole, reply-held, end-inside, end-is-length}
-use borrow.Author.Needs.{needs}
 use Rattle.reply.proofs.reply.Statement.{statement}
 use Rattle.reply.proofs.reply.Tie as tie
 

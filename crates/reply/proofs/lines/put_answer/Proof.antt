@@ -1,7 +1,7 @@
 -- `reply::lines::put_answer` meets its contract: what was asked, then what was found. Assumes nothing.
+use borrow.Author.Needs.{needs}
 use Rattle.reply.proofs.Putting.{puts-on, puts-same}
 use Rattle.reply.proofs.Replies.{answer-found}
-use borrow.Author.Needs.{needs}
 use Rattle.reply.proofs.lines.put_answer.Statement.{statement}
 use Rattle.reply.proofs.lines.put_answer.Tie as tie
 

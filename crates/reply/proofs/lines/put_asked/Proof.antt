@@ -1,7 +1,7 @@
 -- `reply::lines::put_asked` meets its contract: its three lines in a row. Assumes nothing.
-use Rattle.reply.proofs.Putting.{puts-on}
-use Rattle.reply.specs.Lines.{askedLines}
 use borrow.Author.Needs.{needs}
+use Rattle.reply.specs.Lines.{askedLines}
+use Rattle.reply.proofs.Putting.{puts-on}
 use Rattle.reply.proofs.lines.put_asked.Statement.{statement}
 use Rattle.reply.proofs.lines.put_asked.Tie as tie
 

@@ -1,7 +1,7 @@
 -- `reply::lines::put_found` meets its contract: its four lines in a row. Assumes nothing.
-use Rattle.reply.proofs.Putting.{puts-on}
-use Rattle.reply.specs.Lines.{foundLines}
 use borrow.Author.Needs.{needs}
+use Rattle.reply.specs.Lines.{foundLines}
+use Rattle.reply.proofs.Putting.{puts-on}
 use Rattle.reply.proofs.lines.put_found.Statement.{statement}
 use Rattle.reply.proofs.lines.put_found.Tie as tie
 

@@ -1,6 +1,6 @@
 -- `reply::lines::put_text` meets its contract: its three writes are a line. Assumes nothing.
-use Rattle.reply.proofs.Putting.{puts-line}
 use borrow.Author.Needs.{needs}
+use Rattle.reply.proofs.Putting.{puts-line}
 use Rattle.reply.proofs.lines.put_text.Statement.{statement}
 use Rattle.reply.proofs.lines.put_text.Tie as tie
 

@@ -1,0 +1,35 @@
+-- A good input has at most 18 bytes, so a reader may cut the input anywhere behind them. Assumes nothing.
+use mathlib.Core.Path.{_≡_, sym, _∙_, ap}
+use mathlib.Core.List.{List, [], _∷_}
+use mathlib.Core.Logic.{_⊎_, inl, inr}
+use Prim.Native.Nat.{ℕ, _≤_, _<_}
+use native.Mathlib.Omega.{arith}
+use lib.Dec.{lit≤}
+use lib.ListN.{length, take, length-append}
+use lib.Seq.{take-all, length-take-le}
+use Rattle.defs.specs.Kinds.{Kind, square, cube}
+use Rattle.laws.proofs.Powers.{le-or-lt}
+use Rattle.text.specs.Request.{Asks, wordOf}
+use Rattle.reply.specs.Lines.{badInput}
+use Rattle.reply.specs.Reply.{replyOf}
+use Rattle.reply.proofs.Replies.{bad-reply}
+
+word-length : (k : Kind) → length (wordOf k) ≤ 7
+word-length square = lit≤ tt
+word-length cube = lit≤ tt
+
+good-length : (k : Kind) {v : ℕ} {s : List ℕ} → Asks k v s → length s ≤ 18
+good-length k a =
+    let behind = length-append (a .digits) (10 ∷ []) in
+    rw (a .whole, length-append) (omega (arith, behind, word-length k, a .reads .few-digits))
+
+long-reply : (s : List ℕ) → 18 < length s → replyOf s ≡ badInput
+long-reply s h = bad-reply s (λ k v a. omega (arith, good-length k a))
+
+-- the reply to the first n bytes is the reply to the whole input
+pub cut-reply : (n : ℕ) (s : List ℕ) → 18 < n → replyOf (take n s) ≡ replyOf s
+cut-reply n s h = by-size (le-or-lt (length s) n)
+  where
+    by-size : (length s ≤ n) ⊎ (n < length s) → replyOf (take n s) ≡ replyOf s
+    by-size (inl short) = ap replyOf (take-all n s short)
+    by-size (inr long) = long-reply (take n s) (omega (arith, length-take-le n s (omega arith))) ∙ sym (long-reply s (omega arith))
