@@ -1,15 +1,20 @@
--- From a cell to a normalised call: what the fix-up is owed, and what its answer then says. Assumes nothing.
+-- From a cell to its calls: what the fix-up is owed, what its answer then says, and that no call takes more steps than the ceiling.
+-- Assumes nothing.
 use mathlib.Core.Path.{_≡_, refl, sym, _∙_}
-use Prim.Native.Nat.{ℕ, _+_, _≤_, _<_}
+use mathlib.Core.Bool.{Bool, true, false, cond}
+use Prim.Native.Nat.{ℕ, _+_, _-_, _^_, _≤_, _<_, zero-le}
 use native.Mathlib.Nat.{lt-of-lt-of-le, lt-of-le-of-lt, lt-irrefl}
 use native.Mathlib.Omega.{arith}
-use Rattle.defs.specs.Kinds.{Kind, Width, pow}
-use Rattle.defs.specs.Roots.{rootOf}
+use lib.Dec.{eqb}
+use borrow.Author.Tests.{eqb-false}
+use Rattle.defs.specs.Kinds.{Kind, Width, pow, bitsOf}
+use Rattle.defs.specs.Roots.{rootOf, restOf}
 use Rattle.defs.specs.Starts.{S}
-use Rattle.defs.specs.Cells.{IsNormal, ceiling, stepsOf}
+use Rattle.defs.specs.Cells.{IsNormal, ceiling, stepsOf, raised, fullSteps}
 use Rattle.defs.specs.Answers.{Fixed, Normal, Normalised}
 use Rattle.laws.proofs.Powers.{below}
-use Rattle.laws.proofs.Roots.{one-root, root-is}
+use Rattle.laws.proofs.Roots.{one-root, root-is, answer-is}
+use Rattle.laws.proofs.Shift.{Wide, shifted}
 use Rattle.starts.proofs.Cells.{cells}
 
 -- S is a start that the fix-up can be handed
@@ -40,3 +45,20 @@ answers k w {n} h e f = record {
   below-bound = λ low. absurd (lt-irrefl n (lt-of-lt-of-le low (h .from-bound)));
   from-bound = λ high. stepped k w h e f;
 }
+
+-- the steps of a normalised value: those of a fix-up from S to the root
+pub steps-most : (k : Kind) (w : Width) (n : ℕ) → IsNormal k w n → stepsOf k w n ≤ ceiling k w
+steps-most k w n h =
+    let low : S k w n ≤ rootOf k n = root-is k n .greatest (S k w n) (cells k w .near n h .low) in
+    let walk : Fixed k n (S k w n) (rootOf k n) (restOf k n) (rootOf k n - S k w n) = record { root-rem = answer-is k n; counted = omega arith } in
+    let call = answers k w h refl walk .from-bound (h .from-bound) in
+    rw (call .is-steps) at (call .in-ceiling)
+
+-- the steps of a full call: none for the value 0, else those of the value brought to its top bits
+pub full-most : (k : Kind) (w : Width) → Wide w → (n : ℕ) → n < 2 ^ bitsOf w → fullSteps k w n ≤ ceiling k w
+unfolding fullSteps
+full-most k w v n h = by-test (eqb n 0) refl
+  where
+    by-test : (t : Bool) → eqb n 0 ≡ t → cond t 0 (stepsOf k w (raised k w n)) ≤ ceiling k w
+    by-test true e = zero-le
+    by-test false e = steps-most k w (raised k w n) (shifted k w v (omega (arith, eqb-false n 0 e)) h .is-normal)
