@@ -4,14 +4,14 @@ ghost use Prim.Native.Nat.{_*_, _/_, _^_, _≤_, _<_};
 ghost use Rattle.defs.specs.Kinds.{square, cube, u16};
 ghost use Rattle.defs.specs.Starts.{S};
 ghost use Rattle.defs.specs.Starts.Cube16.{q, d};
-use tables::rcbrt_entry;
-use tables::rsqrt_entry;
+use tables::rcbrt_guess;
+use tables::rsqrt_guess;
 
 pub(crate) fn start_sqrt16(n: u16) -> u8
     requires { ⌜ 2 ^ 14 ≤ n ⌝ }
     ensures { λ s. ⌜ s ≡ S square u16 n ⌝ }
 {
-    let r = 256 + rsqrt_entry((n >> 9) as usize - 32) as u32;
+    let r = rsqrt_guess((n >> 9) as usize - 32);
     let s = (r * n as u32) >> 16;
     // one less, so that it is never above the root
     (s - 1) as u8
@@ -40,7 +40,7 @@ pub(crate) fn start_cbrt16(n: u16) -> u8
     requires { ⌜ 2 ^ 13 ≤ n ⌝ }
     ensures { λ s. ⌜ s ≡ S cube u16 n ⌝ }
 {
-    let r = 256 + rcbrt_entry(place_cbrt16(n) as usize - 8) as u32;
+    let r = rcbrt_guess(place_cbrt16(n) as usize - 8);
     let c = (scaled_square16(n, r) * n as u32) >> 24;
     // one less, so that it is never above the root
     (c - 1) as u8

@@ -6,8 +6,8 @@ ghost use Rattle.defs.specs.Kinds.{square, cube, u32};
 ghost use Rattle.defs.specs.Starts.{S};
 ghost use Rattle.defs.specs.Starts.Square32 as sq32;
 ghost use Rattle.defs.specs.Starts.Cube32 as cb32;
-use tables::rcbrt_entry;
-use tables::rsqrt_entry;
+use tables::rcbrt_guess;
+use tables::rsqrt_guess;
 use wide::saturating_double16;
 use wide::wmul16_hi;
 use wide::wmul32_hi;
@@ -18,7 +18,7 @@ fn rsqrt32(n: u32) -> u16
     ensures { λ r. ⌜ r ≡ sq32.r n ⌝ }
 {
     let h = n >> 16;
-    let p = 256 + rsqrt_entry((h >> 9) as usize - 32) as u32;
+    let p = rsqrt_guess((h >> 9) as usize - 32);
     let step = (wmul32_hi(n, p * p * p) >> 11) as u16;
     2 * (96 * p as u16 - step)
 }
@@ -58,7 +58,7 @@ fn rcbrt32(n: u32) -> u16
     ensures { λ y. ⌜ y ≡ cb32.y n ⌝ }
 {
     let g = place_cbrt32(n);
-    let p = 256 + rcbrt_entry((g >> 8) as usize - 8) as u32;
+    let p = rcbrt_guess((g >> 8) as usize - 8);
     let ppp = (p * p * p) >> 11;
     let t = 8192 - wmul16_hi(g, ppp as u16);
     (p * t as u32 / 3 / 16) as u16

@@ -6,8 +6,8 @@ ghost use Rattle.defs.specs.Kinds.{square, cube, u64};
 ghost use Rattle.defs.specs.Starts.{S};
 ghost use Rattle.defs.specs.Starts.Square64 as sq64;
 ghost use Rattle.defs.specs.Starts.Cube64 as cb64;
-use tables::rcbrt_entry;
-use tables::rsqrt_entry;
+use tables::rcbrt_guess;
+use tables::rsqrt_guess;
 use wide::wmul32_hi;
 
 // x: the guess after the first Newton step.
@@ -16,7 +16,7 @@ fn first_rsqrt64(n: u64) -> u32
     ensures { λ x. ⌜ x ≡ sq64.x n ⌝ }
 {
     let h = (n >> 32) as u32;
-    let p = 256 + rsqrt_entry((h >> 25) as usize - 32) as u32;
+    let p = rsqrt_guess((h >> 25) as usize - 32);
     3 * p * 0x20_0000 - wmul32_hi(h, 32 * (p * p * p))
 }
 
@@ -63,7 +63,7 @@ fn first_rcbrt64(n: u64, g: u32) -> u32
     requires { ⌜ (2 ^ 61 ≤ n) × (g ≡ cb64.g n) ⌝ }
     ensures { λ x. ⌜ x ≡ cb64.x n ⌝ }
 {
-    let p = 256 + rcbrt_entry((g >> 25) as usize - 8) as u32;
+    let p = rcbrt_guess((g >> 25) as usize - 8);
     p * ((0x200_0000 - wmul32_hi(g, p * p * p)) / 3)
 }
 

@@ -1,1 +1,3 @@
 pub mod Bracket
+pub mod Beyond
+pub mod Unpacked

@@ -1,7 +1,12 @@
-// The two tables of first guesses, and a look-up of each that answers at every index.
+// The two tables of first guesses, and look-ups that answer at every index: of an entry, and of the guess that it stands for.
 ghost use mathlib.Core.Path.{_≡_};
 ghost use Rattle.defs.specs.Kinds.{square, cube};
 ghost use Rattle.defs.specs.Tables.{entry};
+
+mod words;
+
+pub use words::rcbrt_guess;
+pub use words::rsqrt_guess;
 
 // 1/√x at 9 bits, without the top bit, for x = 32 + i.
 const RSQRT_TAB: [u8; 96] = [

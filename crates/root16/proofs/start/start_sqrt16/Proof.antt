@@ -1,4 +1,5 @@
 -- `root16::start::start_sqrt16` meets its contract: it is S of the scope document, letter by letter. Assumes nothing.
+use native.Mathlib.Omega.{arith}
 use borrow.Author.Needs.{needs}
 use Rattle.defs.specs.Starts.Square16.{r, S}
 use Rattle.starts.proofs.Square16.{safe}
@@ -7,15 +8,21 @@ use Rattle.root16.proofs.start.start_sqrt16.Tie as tie
 
 mul-s : tie.Need-mul-s
 unfolding r
-mul-s c = rw (c .rsqrt-entry .ensures) (record { fits = safe (c .before .args .n) (c .before .pre) (c .before .fits .n .fits) .product-fits })
+mul-s c = rw (c .rsqrt-guess .ensures .0) (record { fits = safe (c .before .args .n) (c .before .pre) (c .before .fits .n .fits) .product-fits })
+
+sub-result : tie.Need-sub-result
+unfolding r
+sub-result c =
+    rw (c .rsqrt-guess .ensures .0)
+    (omega (arith, safe (c .before .args .n) (c .before .pre) (c .before .fits .n .fits) .at-least-one))
 
 cast-result : tie.Need-cast-result
 unfolding r S
-cast-result c = rw (c .rsqrt-entry .ensures) (record { fits = safe (c .before .args .n) (c .before .pre) (c .before .fits .n .fits) .fits })
+cast-result c = rw (c .rsqrt-guess .ensures .0) (record { fits = safe (c .before .args .n) (c .before .pre) (c .before .fits .n .fits) .fits })
 
 returns : tie.Need-returns
 unfolding r S
-returns c = rw (c .rsqrt-entry .ensures)
+returns c = rw (c .rsqrt-guess .ensures .0)
 
 pub start-sqrt16-spec : {M : Type 1} → statement M
 start-sqrt16-spec =
@@ -24,9 +31,7 @@ start-sqrt16-spec =
     (λ c. search needs)
     (λ c. search needs)
     (λ c κs. search needs)
-    (λ c. search needs)
-    (λ c. search needs)
     mul-s
-    (λ c. search needs)
+    sub-result
     cast-result
     returns)

@@ -21,23 +21,23 @@ cast-step : tie.Need-cast-step
 unfolding h p
 cast-step c =
     let s = safe-at (c .before .before) in
-    rw (c .wmul32-hi .ensures, step, c .before .rsqrt-entry .ensures)
+    rw (c .wmul32-hi .ensures, step, c .before .rsqrt-guess .ensures .0)
     (omega (arith, s .step-fits, s .product-fits))
 
 sub-result : tie.Need-sub-result
 unfolding h p
 sub-result c =
-    rw (c .wmul32-hi .ensures, step, c .before .rsqrt-entry .ensures) (safe-at (c .before .before) .step-fits)
+    rw (c .wmul32-hi .ensures, step, c .before .rsqrt-guess .ensures .0) (safe-at (c .before .before) .step-fits)
 
 mul-result : tie.Need-mul-result-2
 unfolding h p r
 mul-result c =
-    rw (c .wmul32-hi .ensures, step, c .before .rsqrt-entry .ensures)
+    rw (c .wmul32-hi .ensures, step, c .before .rsqrt-guess .ensures .0)
     (record { fits = safe-at (c .before .before) .r-fits })
 
 returns : tie.Need-returns
 unfolding h p r
-returns c = rw (c .wmul32-hi .ensures, step, c .before .rsqrt-entry .ensures)
+returns c = rw (c .wmul32-hi .ensures, step, c .before .rsqrt-guess .ensures .0)
 
 pub rsqrt32-spec : {M : Type 1} → statement M
 rsqrt32-spec =
@@ -46,10 +46,8 @@ rsqrt32-spec =
     (λ c. search needs)
     (λ c. search needs)
     (λ c κs. search needs)
-    (λ c. search needs)
-    (λ c. search needs)
-    (λ c. omega (arith, guess-powers {p = 256 + c .rsqrt-entry .result} (omega arith)))
-    (λ c. omega (arith, guess-powers {p = 256 + c .rsqrt-entry .result} (omega arith)))
+    (λ c. omega (arith, guess-powers (c .rsqrt-guess .ensures .1)))
+    (λ c. omega (arith, guess-powers (c .rsqrt-guess .ensures .1)))
     (λ c κs. search needs)
     cast-step
     (λ c. search needs)

@@ -12,11 +12,11 @@ sub-result : tie.Need-sub-result
 unfolding h p
 sub-result c =
     let s = c .before .before in
-    rw (c .wmul32-hi .ensures, c .before .rsqrt-entry .ensures) (safe (s .args .n) (s .pre) (s .fits .n .fits) .x-stays)
+    rw (c .wmul32-hi .ensures, c .before .rsqrt-guess .ensures .0) (safe (s .args .n) (s .pre) (s .fits .n .fits) .x-stays)
 
 returns : tie.Need-returns
 unfolding h p x
-returns c = rw (c .wmul32-hi .ensures, c .before .rsqrt-entry .ensures)
+returns c = rw (c .wmul32-hi .ensures, c .before .rsqrt-guess .ensures .0)
 
 pub first-rsqrt64-spec : {M : Type 1} → statement M
 first-rsqrt64-spec =
@@ -28,11 +28,9 @@ first-rsqrt64-spec =
     (λ c κs. search needs)
     (λ c. search needs)
     (λ c. search needs)
-    (λ c. search needs)
-    (λ c. search needs)
-    (λ c. omega (arith, guess-powers {p = 256 + c .rsqrt-entry .result} (omega arith)))
-    (λ c. omega (arith, guess-powers {p = 256 + c .rsqrt-entry .result} (omega arith)))
-    (λ c. omega (arith, guess-powers {p = 256 + c .rsqrt-entry .result} (omega arith)))
+    (λ c. omega (arith, guess-powers (c .rsqrt-guess .ensures .1)))
+    (λ c. omega (arith, guess-powers (c .rsqrt-guess .ensures .1)))
+    (λ c. omega (arith, guess-powers (c .rsqrt-guess .ensures .1)))
     (λ c κs. search needs)
     sub-result
     returns)
