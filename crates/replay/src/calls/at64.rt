@@ -34,18 +34,22 @@ pub(crate) fn call(degree: u64, value: u64) -> Found {
     if degree == 2 {
         let a = root64::sqrt_rem(n);
         let m = root64::normalized_sqrt_rem(n);
+        let back = rebuild::square64(a.root, a.rest);
         found(
             a,
             root64::sqrt(n),
             normalised(a, m, n >= 0x4000_0000_0000_0000),
+            back.refusal == 0 && back.value == n,
         )
     } else {
         let a = root64::cbrt_rem(n);
         let m = root64::normalized_cbrt_rem(n);
+        let back = rebuild::cube64(a.root, a.rest);
         found(
             a,
             root64::cbrt(n),
             normalised(a, m, n >= 0x2000_0000_0000_0000),
+            back.refusal == 0 && back.value == n,
         )
     }
 }
