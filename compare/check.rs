@@ -1,5 +1,5 @@
 // One value through every call of its width, and one pair through rebuilding.
-use crate::starts::{bill, start, Kind};
+use crate::starts::{bill, Kind};
 use crate::tally::{Call, Tally};
 use crate::widths::{top, Answer, Width, ZERO};
 
@@ -21,13 +21,13 @@ fn is_normalised<W: Width>(kind: Kind, n: u64) -> bool {
     n >> (W::BITS - kind.degree()) > 0
 }
 
-fn normalised_expected<W: Width>(kind: Kind, n: u64) -> (u8, Answer) {
+// A value that is not shifted has the start and steps of its full call.
+fn normalised_expected<W: Width>(kind: Kind, n: u64, full: &Answer) -> (u8, Answer) {
     if !is_normalised::<W>(kind, n) {
         return (1, ZERO);
     }
     let (root, rest) = W::rust_normalised(kind, n);
-    let start = start(kind, W::BITS, n as u128) as u64;
-    (0, Answer { root, rest, start, steps: root.wrapping_sub(start) })
+    (0, Answer { root, rest, ..*full })
 }
 
 // The largest rest that a root can leave.
@@ -60,9 +60,9 @@ pub fn pair<W: Width>(kind: Kind, root: u64, rest: u64, tally: &mut Tally) -> Ch
     Ok(())
 }
 
-fn normalised<W: Width>(kind: Kind, n: u64, tally: &mut Tally) -> Checked {
+fn normalised<W: Width>(kind: Kind, n: u64, full: &Answer, tally: &mut Tally) -> Checked {
     if let Some(given) = W::normalised(kind, n) {
-        let expected = normalised_expected::<W>(kind, n);
+        let expected = normalised_expected::<W>(kind, n, full);
         if given != expected {
             return Err(format!("normalised {} of {n}: {given:?}, expected {expected:?}", named::<W>(kind)));
         }
@@ -89,7 +89,7 @@ fn full_and_alone<W: Width>(kind: Kind, n: u64, expected: &Answer, tally: &mut T
 pub fn value<W: Width>(kind: Kind, n: u64, tally: &mut Tally) -> Checked {
     let expected = full_expected::<W>(kind, n);
     full_and_alone::<W>(kind, n, &expected, tally)?;
-    normalised::<W>(kind, n, tally)?;
+    normalised::<W>(kind, n, &expected, tally)?;
     pair::<W>(kind, expected.root, expected.rest, tally)?;
     let beyond = rest_limit(kind, expected.root) + 1;
     if beyond <= top::<W>() as u128 {
