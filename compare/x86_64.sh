@@ -3,7 +3,7 @@
 #   rust_for_x86_64 sets RUSTC_X86_64 (compiler and its arguments) and RUNNER_X86_64 (what runs a program, empty on x86-64).
 
 cannot() {
-    echo "$(basename "$(dirname "$0")"): not run, $1" >&2
+    echo "$(basename "$(dirname "${BASH_SOURCE[-1]}")"): not run, $1"
     exit 3
 }
 
