@@ -33,7 +33,7 @@ macro_rules! width {
     ($n:ty, $root:ty, $bare2:ident, $bare1:ident, $sqrt_rem:ident, $cbrt_rem:ident, $sqrt:ident, $cbrt:ident,
      $std_rem:ident, $std:ident) => {
         full!($bare2, $n, $root, n, (n as $root, n));
-        alone!($bare1, $n, $root, n, n as $root);
+        alone!($bare1, $n, $root, n, !n as $root);
         full!($sqrt_rem, $n, $root, n, n.sqrt_rem());
         full!($cbrt_rem, $n, $root, n, n.cbrt_rem());
         alone!($sqrt, $n, $root, n, n.sqrt());
