@@ -5,7 +5,7 @@ use std::collections::BTreeSet;
 const SAMPLE: u32 = 3000;
 
 // The greatest a whose power is at most n, by bisection.
-fn floor_root(kind: Kind, n: u128) -> u128 {
+pub fn floor_root(kind: Kind, n: u128) -> u128 {
     let (mut low, mut high) = (0u128, 1u128 << 33);
     while high - low > 1 {
         let middle = (low + high) / 2;
@@ -15,10 +15,10 @@ fn floor_root(kind: Kind, n: u128) -> u128 {
 }
 
 // splitmix64: a fixed seed gives the same sample on every machine.
-struct Sample(u64);
+pub struct Sample(pub u64);
 
 impl Sample {
-    fn next(&mut self) -> u64 {
+    pub fn next(&mut self) -> u64 {
         self.0 = self.0.wrapping_add(0x9e37_79b9_7f4a_7c15);
         let mut z = self.0;
         z = (z ^ (z >> 30)).wrapping_mul(0xbf58_476d_1ce4_e5b9);
@@ -54,7 +54,7 @@ impl Values {
 }
 
 // The numbers at which a normalised value enters the next table entry.
-fn entry_edges(kind: Kind, width: u32) -> Vec<u128> {
+pub fn entry_edges(kind: Kind, width: u32) -> Vec<u128> {
     let (first, last) = match kind {
         Kind::Square => (32u128, 128u128),
         Kind::Cube => (8, 64),

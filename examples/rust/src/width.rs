@@ -1,0 +1,103 @@
+//! The calls by width: which function of the archive serves which type. None of those functions needs anything of its
+//! caller, so each `unsafe` below is sound for every argument.
+use crate::raw::{self, Root};
+use crate::refusal::answered;
+use crate::{CubicRoot, CubicRootRem, Refusal, SquareRoot, SquareRootRem};
+
+/// A type with roots: u8, u16, u32 or u64.
+pub trait Width: Sized + SquareRootRem + CubicRootRem + SquareRoot + CubicRoot {
+    /// What holds a root of this type.
+    type Root;
+    fn full_sqrt(self) -> Root<Self::Root, Self>;
+    fn full_cbrt(self) -> Root<Self::Root, Self>;
+    fn rebuilt_square(root: Self::Root, rest: Self) -> Result<Self, Refusal>;
+    fn rebuilt_cube(root: Self::Root, rest: Self) -> Result<Self, Refusal>;
+}
+
+/// A type that has normalised calls too: u16, u32 or u64.
+pub trait Normalized: Width {
+    fn normalized_sqrt(self) -> Result<Root<Self::Root, Self>, Refusal>;
+    fn normalized_cbrt(self) -> Result<Root<Self::Root, Self>, Refusal>;
+}
+
+macro_rules! traits_of_dashu {
+    ($n:ty, $root:ty, $sqrt_rem:ident, $cbrt_rem:ident, $sqrt:ident, $cbrt:ident) => {
+        impl SquareRootRem for $n {
+            type Output = $root;
+            fn sqrt_rem(&self) -> ($root, $n) {
+                let answer = unsafe { raw::$sqrt_rem(*self) };
+                (answer.root, answer.rest)
+            }
+        }
+        impl CubicRootRem for $n {
+            type Output = $root;
+            fn cbrt_rem(&self) -> ($root, $n) {
+                let answer = unsafe { raw::$cbrt_rem(*self) };
+                (answer.root, answer.rest)
+            }
+        }
+        impl SquareRoot for $n {
+            type Output = $root;
+            fn sqrt(&self) -> $root {
+                unsafe { raw::$sqrt(*self) }
+            }
+        }
+        impl CubicRoot for $n {
+            type Output = $root;
+            fn cbrt(&self) -> $root {
+                unsafe { raw::$cbrt(*self) }
+            }
+        }
+    };
+}
+
+macro_rules! width {
+    ($n:ty, $root:ty, $sqrt_rem:ident, $cbrt_rem:ident, $square:ident, $cube:ident) => {
+        impl Width for $n {
+            type Root = $root;
+            fn full_sqrt(self) -> Root<$root, $n> {
+                unsafe { raw::$sqrt_rem(self) }
+            }
+            fn full_cbrt(self) -> Root<$root, $n> {
+                unsafe { raw::$cbrt_rem(self) }
+            }
+            fn rebuilt_square(root: $root, rest: $n) -> Result<$n, Refusal> {
+                let rebuilt = unsafe { raw::$square(root, rest) };
+                answered(rebuilt.refusal, rebuilt.value)
+            }
+            fn rebuilt_cube(root: $root, rest: $n) -> Result<$n, Refusal> {
+                let rebuilt = unsafe { raw::$cube(root, rest) };
+                answered(rebuilt.refusal, rebuilt.value)
+            }
+        }
+    };
+}
+
+macro_rules! normalized {
+    ($n:ty, $root:ty, $sqrt_rem:ident, $cbrt_rem:ident) => {
+        impl Normalized for $n {
+            fn normalized_sqrt(self) -> Result<Root<$root, $n>, Refusal> {
+                let a = unsafe { raw::$sqrt_rem(self) };
+                answered(a.refusal, Root { root: a.root, rest: a.rest, start: a.start, steps: a.steps })
+            }
+            fn normalized_cbrt(self) -> Result<Root<$root, $n>, Refusal> {
+                let a = unsafe { raw::$cbrt_rem(self) };
+                answered(a.refusal, Root { root: a.root, rest: a.rest, start: a.start, steps: a.steps })
+            }
+        }
+    };
+}
+
+traits_of_dashu!(u8, u8, fregnaul_sqrt_rem_u8, fregnaul_cbrt_rem_u8, fregnaul_sqrt_u8, fregnaul_cbrt_u8);
+traits_of_dashu!(u16, u8, fregnaul_sqrt_rem_u16, fregnaul_cbrt_rem_u16, fregnaul_sqrt_u16, fregnaul_cbrt_u16);
+traits_of_dashu!(u32, u16, fregnaul_sqrt_rem_u32, fregnaul_cbrt_rem_u32, fregnaul_sqrt_u32, fregnaul_cbrt_u32);
+traits_of_dashu!(u64, u32, fregnaul_sqrt_rem_u64, fregnaul_cbrt_rem_u64, fregnaul_sqrt_u64, fregnaul_cbrt_u64);
+
+width!(u8, u8, fregnaul_sqrt_rem_u8, fregnaul_cbrt_rem_u8, fregnaul_rebuild_square_u8, fregnaul_rebuild_cube_u8);
+width!(u16, u8, fregnaul_sqrt_rem_u16, fregnaul_cbrt_rem_u16, fregnaul_rebuild_square_u16, fregnaul_rebuild_cube_u16);
+width!(u32, u16, fregnaul_sqrt_rem_u32, fregnaul_cbrt_rem_u32, fregnaul_rebuild_square_u32, fregnaul_rebuild_cube_u32);
+width!(u64, u32, fregnaul_sqrt_rem_u64, fregnaul_cbrt_rem_u64, fregnaul_rebuild_square_u64, fregnaul_rebuild_cube_u64);
+
+normalized!(u16, u8, fregnaul_normalized_sqrt_rem_u16, fregnaul_normalized_cbrt_rem_u16);
+normalized!(u32, u16, fregnaul_normalized_sqrt_rem_u32, fregnaul_normalized_cbrt_rem_u32);
+normalized!(u64, u32, fregnaul_normalized_sqrt_rem_u64, fregnaul_normalized_cbrt_rem_u64);
