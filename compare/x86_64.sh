@@ -9,7 +9,7 @@ cannot() {
 
 archive() {
     command -v rt >/dev/null || cannot "no Rattle toolchain here to build the archive"
-    rt staticlib exports </dev/null >target/staticlib.log 2>&1 || { tail -n 20 target/staticlib.log >&2; exit 1; }
+    ./archive --fresh || ./archive </dev/null >target/staticlib.log 2>&1 || { tail -n 20 target/staticlib.log >&2; exit 1; }
 }
 
 # The folder of the Rust's own files; none of them is in this repository.
