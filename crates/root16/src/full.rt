@@ -3,8 +3,8 @@ ghost use Prim.Native.Nat.{_<_};
 ghost use Rattle.defs.specs.Kinds.{square, cube, u16};
 ghost use Rattle.defs.specs.Roots.{IsRoot};
 ghost use Rattle.defs.specs.Answers.{Brought, Full};
-use crate::normalized::normalized_cbrt_rem;
-use crate::normalized::normalized_sqrt_rem;
+use crate::normalized::answered_cbrt16;
+use crate::normalized::answered_sqrt16;
 
 // What a full call answers: root and rest, and where its fix-up started and how many steps it took.
 #[repr(C)]
@@ -38,7 +38,7 @@ fn brought_sqrt16(n: u16) -> Brought16
 {
     let zeros = u16::leading_zeros(n);
     let shift = zeros - zeros % 2;
-    let s = normalized_sqrt_rem(n << shift);
+    let s = answered_sqrt16(n << shift);
     let root = s.root >> (shift / 2);
     Brought16 {
         shift: shift,
@@ -79,7 +79,9 @@ pub fn sqrt(n: u16) -> u8
     if n == 0 {
         return 0;
     }
-    brought_sqrt16(n).root
+    let zeros = u16::leading_zeros(n);
+    let shift = zeros - zeros % 2;
+    answered_sqrt16(n << shift).root >> (shift / 2)
 }
 
 // The shift is the count of leading zeros, lowered to a multiple of 3.
@@ -89,7 +91,7 @@ fn brought_cbrt16(n: u16) -> Brought16
 {
     let zeros = u16::leading_zeros(n);
     let shift = zeros - zeros % 3;
-    let c = normalized_cbrt_rem(n << shift);
+    let c = answered_cbrt16(n << shift);
     let root = c.root >> (shift / 3);
     Brought16 {
         shift: shift,
@@ -130,5 +132,7 @@ pub fn cbrt(n: u16) -> u8
     if n == 0 {
         return 0;
     }
-    brought_cbrt16(n).root
+    let zeros = u16::leading_zeros(n);
+    let shift = zeros - zeros % 3;
+    answered_cbrt16(n << shift).root >> (shift / 3)
 }

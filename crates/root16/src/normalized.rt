@@ -1,5 +1,7 @@
 // Normalised calls at 16 bits: a value without its top bits is refused, any other is answered from its start.
+ghost use Prim.Native.Nat.{_≤_};
 ghost use Rattle.defs.specs.Kinds.{square, cube, u16};
+ghost use Rattle.defs.specs.Cells.{bound};
 ghost use Rattle.defs.specs.Answers.{Normalised};
 use crate::fix::fix_cbrt_error16;
 use crate::fix::fix_sqrt_error16;
@@ -24,14 +26,38 @@ const REFUSED: NormalizedRootRem16 = NormalizedRootRem16 {
     steps: 0,
 };
 
+// A value that is known to be normalised, answered from its start.
+pub(crate) fn answered_sqrt16(n: u16) -> NormalizedRootRem16
+    requires { ⌜ bound square u16 ≤ n ⌝ }
+    ensures { λ r. ⌜ Normalised square u16 n (r .refusal) (r .root) (r .rest) (r .start) (r .steps) ⌝ }
+{
+    let start = start_sqrt16(n);
+    let fixed = fix_sqrt_error16(n, start);
+    NormalizedRootRem16 {
+        refusal: 0,
+        root: fixed.root,
+        rest: fixed.rest,
+        start: start,
+        steps: fixed.steps,
+    }
+}
+
 pub fn normalized_sqrt_rem(n: u16) -> NormalizedRootRem16
     ensures { λ r. ⌜ Normalised square u16 n (r .refusal) (r .root) (r .rest) (r .start) (r .steps) ⌝ }
 {
     if n < 16384 {
         return REFUSED;
     }
-    let start = start_sqrt16(n);
-    let fixed = fix_sqrt_error16(n, start);
+    answered_sqrt16(n)
+}
+
+// A value that is known to be normalised, answered from its start.
+pub(crate) fn answered_cbrt16(n: u16) -> NormalizedRootRem16
+    requires { ⌜ bound cube u16 ≤ n ⌝ }
+    ensures { λ r. ⌜ Normalised cube u16 n (r .refusal) (r .root) (r .rest) (r .start) (r .steps) ⌝ }
+{
+    let start = start_cbrt16(n);
+    let fixed = fix_cbrt_error16(n, start);
     NormalizedRootRem16 {
         refusal: 0,
         root: fixed.root,
@@ -47,13 +73,5 @@ pub fn normalized_cbrt_rem(n: u16) -> NormalizedRootRem16
     if n < 8192 {
         return REFUSED;
     }
-    let start = start_cbrt16(n);
-    let fixed = fix_cbrt_error16(n, start);
-    NormalizedRootRem16 {
-        refusal: 0,
-        root: fixed.root,
-        rest: fixed.rest,
-        start: start,
-        steps: fixed.steps,
-    }
+    answered_cbrt16(n)
 }

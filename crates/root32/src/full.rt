@@ -3,8 +3,8 @@ ghost use Prim.Native.Nat.{_<_};
 ghost use Rattle.defs.specs.Kinds.{square, cube, u32};
 ghost use Rattle.defs.specs.Roots.{IsRoot};
 ghost use Rattle.defs.specs.Answers.{Brought, Full};
-use crate::normalized::normalized_cbrt_rem;
-use crate::normalized::normalized_sqrt_rem;
+use crate::normalized::answered_cbrt32;
+use crate::normalized::answered_sqrt32;
 
 // What a full call answers: root and rest, and where its fix-up started and how many steps it took.
 #[repr(C)]
@@ -38,7 +38,7 @@ fn brought_sqrt32(n: u32) -> Brought32
 {
     let zeros = u32::leading_zeros(n);
     let shift = zeros - zeros % 2;
-    let s = normalized_sqrt_rem(n << shift);
+    let s = answered_sqrt32(n << shift);
     let root = s.root >> (shift / 2);
     Brought32 {
         shift: shift,
@@ -79,7 +79,9 @@ pub fn sqrt(n: u32) -> u16
     if n == 0 {
         return 0;
     }
-    brought_sqrt32(n).root
+    let zeros = u32::leading_zeros(n);
+    let shift = zeros - zeros % 2;
+    answered_sqrt32(n << shift).root >> (shift / 2)
 }
 
 // The shift is the count of leading zeros, lowered to a multiple of 3.
@@ -89,7 +91,7 @@ fn brought_cbrt32(n: u32) -> Brought32
 {
     let zeros = u32::leading_zeros(n);
     let shift = zeros - zeros % 3;
-    let c = normalized_cbrt_rem(n << shift);
+    let c = answered_cbrt32(n << shift);
     let root = c.root >> (shift / 3);
     Brought32 {
         shift: shift,
@@ -130,5 +132,7 @@ pub fn cbrt(n: u32) -> u16
     if n == 0 {
         return 0;
     }
-    brought_cbrt32(n).root
+    let zeros = u32::leading_zeros(n);
+    let shift = zeros - zeros % 3;
+    answered_cbrt32(n << shift).root >> (shift / 3)
 }

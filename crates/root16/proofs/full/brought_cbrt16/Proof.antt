@@ -12,11 +12,11 @@ use Rattle.root16.proofs.full.brought_cbrt16.Tie as tie
 at-top : (c : tie.Start) → Shifted cube u16 (c .args .n)
 at-top c = shifted cube u16 tt (c .pre) (c .fits .n .fits)
 
-shift-casts : tie.Need-cast-normalized-cbrt-rem
+shift-casts : tie.Need-cast-answered-cbrt16
 unfolding shiftOf
 shift-casts c = omega (arith, at-top c .shift-fits)
 
-shift-fits : tie.Need-shl-normalized-cbrt-rem
+shift-fits : tie.Need-shl-answered-cbrt16
 unfolding shiftOf
 shift-fits c = at-top c .shift-fits
 
@@ -28,11 +28,15 @@ back-fits : tie.Need-shr-root
 unfolding shiftOf
 back-fits c = omega (arith, at-top (c .before .before) .back-fits)
 
+is-normal : tie.Need-answered-cbrt16-requires
+unfolding shiftOf
+is-normal c κs = rw (at-top c .raises) (at-top c .is-normal .from-bound)
+
 returns : tie.Need-returns
 unfolding shiftOf
 returns c =
     let s = c .before .before in
-    brought cube u16 tt (s .pre) (s .fits .n .fits) (c .before .normalized-cbrt-rem .ensures)
+    brought cube u16 tt (s .pre) (s .fits .n .fits) (c .before .answered-cbrt16 .ensures)
 
 pub brought-cbrt16-spec : {M : Type 1} → statement M
 brought-cbrt16-spec =
@@ -41,7 +45,7 @@ brought-cbrt16-spec =
     (λ c. search needs)
     shift-casts
     shift-fits
-    (λ c κs. search needs)
+    is-normal
     back-casts
     back-fits
     returns)

@@ -12,7 +12,7 @@ use Rattle.root32.proofs.full.brought_sqrt32.Tie as tie
 at-top : (c : tie.Start) → Shifted square u32 (c .args .n)
 at-top c = shifted square u32 tt (c .pre) (c .fits .n .fits)
 
-shift-fits : tie.Need-shl-normalized-sqrt-rem
+shift-fits : tie.Need-shl-answered-sqrt32
 unfolding shiftOf
 shift-fits c = at-top c .shift-fits
 
@@ -24,11 +24,15 @@ back-fits : tie.Need-shr-root
 unfolding shiftOf
 back-fits c = omega (arith, at-top (c .before .before) .back-fits)
 
+is-normal : tie.Need-answered-sqrt32-requires
+unfolding shiftOf
+is-normal c κs = rw (at-top c .raises) (at-top c .is-normal .from-bound)
+
 returns : tie.Need-returns
 unfolding shiftOf
 returns c =
     let s = c .before .before in
-    brought square u32 tt (s .pre) (s .fits .n .fits) (c .before .normalized-sqrt-rem .ensures)
+    brought square u32 tt (s .pre) (s .fits .n .fits) (c .before .answered-sqrt32 .ensures)
 
 pub brought-sqrt32-spec : {M : Type 1} → statement M
 brought-sqrt32-spec =
@@ -36,7 +40,7 @@ brought-sqrt32-spec =
     (tie.spec
     (λ c. search needs)
     shift-fits
-    (λ c κs. search needs)
+    is-normal
     back-casts
     back-fits
     returns)

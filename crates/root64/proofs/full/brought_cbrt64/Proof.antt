@@ -12,11 +12,11 @@ use Rattle.root64.proofs.full.brought_cbrt64.Tie as tie
 at-top : (c : tie.Start) → Shifted cube u64 (c .args .n)
 at-top c = shifted cube u64 tt (c .pre) (c .fits .n .fits)
 
-shift-casts : tie.Need-cast-normalized-cbrt-rem
+shift-casts : tie.Need-cast-answered-cbrt64
 unfolding shiftOf
 shift-casts c = omega (arith, at-top c .shift-fits)
 
-shift-fits : tie.Need-shl-normalized-cbrt-rem
+shift-fits : tie.Need-shl-answered-cbrt64
 unfolding shiftOf
 shift-fits c = at-top c .shift-fits
 
@@ -24,11 +24,15 @@ back-fits : tie.Need-shr-root
 unfolding shiftOf
 back-fits c = omega (arith, at-top (c .before .before) .back-fits)
 
+is-normal : tie.Need-answered-cbrt64-requires
+unfolding shiftOf
+is-normal c κs = rw (at-top c .raises) (at-top c .is-normal .from-bound)
+
 returns : tie.Need-returns
 unfolding shiftOf
 returns c =
     let s = c .before .before in
-    brought cube u64 tt (s .pre) (s .fits .n .fits) (c .before .normalized-cbrt-rem .ensures)
+    brought cube u64 tt (s .pre) (s .fits .n .fits) (c .before .answered-cbrt64 .ensures)
 
 pub brought-cbrt64-spec : {M : Type 1} → statement M
 brought-cbrt64-spec =
@@ -37,6 +41,6 @@ brought-cbrt64-spec =
     (λ c. search needs)
     shift-casts
     shift-fits
-    (λ c κs. search needs)
+    is-normal
     back-fits
     returns)
