@@ -11,8 +11,8 @@ use lib.Seq.{drop-append-le, drop-drop}
 use borrow.Author.Tests.{lt-ltb, le-ltb, eq-eqb, ne-eqb, eqb-true, eqb-false}
 use Rattle.defs.specs.Kinds.{square}
 use Rattle.defs.specs.Roots.{rootOf}
-use Rattle.defs.specs.Refusals.{answered, firstBeyond, countBeyond, lengthsDiffer}
-use Rattle.batch.specs.Batch.{part, refusalOf, Refused, Ran, Batched}
+use Rattle.defs.specs.Refusals.{noRefusal, firstBeyond, countBeyond, lengthsDiffer}
+use Rattle.batch.specs.Batch.{part, refusalOf, NothingDone, Ran, Batched}
 use Rattle.batch.proofs.Paid.{paid-largest}
 
 -- the refusal by what its tests found
@@ -27,11 +27,11 @@ pub lengths-differ : (first count values roots : ℕ) → first ≤ values → c
 lengths-differ first count values roots h g d = rw (le-ltb values first h, le-ltb (values - first) count g, ne-eqb values roots d)
 
 none-refused : (first count values roots : ℕ) → first ≤ values → count ≤ values - first → values ≡ roots →
-    refusalOf first count values roots ≡ answered
+    refusalOf first count values roots ≡ noRefusal
 none-refused first count values roots h g s = rw (le-ltb values first h, le-ltb (values - first) count g, eq-eqb values roots s)
 
 -- a call that returns a refusal's number and zeros, with nothing written
-pub refuses : {values before : List ℕ} {first count budget number refusal done spent : ℕ} → (number ≡ answered → ⊥) →
+pub refuses : {values before : List ℕ} {first count budget number refusal done spent : ℕ} → (number ≡ noRefusal → ⊥) →
     refusalOf first count (length values) (length before) ≡ number → (refusal ≡ number) × (done ≡ 0) × (spent ≡ 0) →
     Batched values before first count budget refusal done spent before
 refuses some found said = record {
@@ -61,7 +61,7 @@ placed first count {values} {before} {middle} {budget} {done} {spent} within ran
 -- a call that passes every test, and lends the two parts to a run
 pub answers : {values before middle : List ℕ} {first count budget done spent : ℕ} → first ≤ length values → count ≤ length values - first →
     length values ≡ length before → Ran (part first count values) (part first count before) 0 budget done spent middle →
-    Batched values before first count budget answered done spent (take first before ++ (middle ++ drop count (drop first before)))
+    Batched values before first count budget noRefusal done spent (take first before ++ (middle ++ drop count (drop first before)))
 answers {values} {before} {middle} {first} {count} {budget} {done} {spent} h g same ran =
     let within : done ≤ length (part first count before) =
     omega (arith, ran .is-done, paid-largest (part first count values) budget .affords .within, part-length first count values h g, part-length first count before (omega arith) (omega arith)) in
@@ -79,7 +79,7 @@ one-ran x y =
     let same = x .is-done ∙ sym (y .is-done) in
     (same, (cc), (cc))
 
-one-refused : {before after after′ : List ℕ} {done spent done′ spent′ : ℕ} → Refused before done spent after → Refused before done′ spent′ after′ →
+one-refused : {before after after′ : List ℕ} {done spent done′ spent′ : ℕ} → NothingDone before done spent after → NothingDone before done′ spent′ after′ →
     (done ≡ done′) × (spent ≡ spent′) × (after ≡ after′)
 one-refused x y = ((cc), (cc), (cc))
 
@@ -88,16 +88,16 @@ pub one-batch : {values before after after′ : List ℕ} {first count budget re
     Batched values before first count budget refusal done spent after → Batched values before first count budget refusal′ done′ spent′ after′ →
     (refusal ≡ refusal′) × (done ≡ done′) × (spent ≡ spent′) × (after ≡ after′)
 one-batch {values} {before} {after} {after′} {first} {count} {budget} {refusal} {done} {spent} {refusal′} {done′} {spent′} x y =
-    let rest = by-test (eqb refusal answered) refl in
+    let rest = by-test (eqb refusal noRefusal) refl in
     (same, rest .0, rest .1, rest .2)
   where
     same : refusal ≡ refusal′
     same = x .is-refusal ∙ sym (y .is-refusal)
 
-    by-test : (t : Bool) → eqb refusal answered ≡ t → (done ≡ done′) × (spent ≡ spent′) × (after ≡ after′)
+    by-test : (t : Bool) → eqb refusal noRefusal ≡ t → (done ≡ done′) × (spent ≡ spent′) × (after ≡ after′)
     by-test true e =
-        let none = eqb-true refusal answered e in
+        let none = eqb-true refusal noRefusal e in
         one-ran (x .if-answered none) (y .if-answered (sym same ∙ none))
     by-test false e =
-        let some = eqb-false refusal answered e in
+        let some = eqb-false refusal noRefusal e in
         one-refused (x .if-refused some) (y .if-refused (λ none. some (same ∙ none)))

@@ -6,7 +6,7 @@ use lib.Dec.{lit<}
 use lib.ListN.{take, drop}
 use lib.Seq.{getD-drop}
 use Rattle.defs.specs.Kinds.{square, u32}
-use Rattle.starts.proofs.Calls.{full-most}
+use Rattle.starts.proofs.Calls.{full-counts}
 use Rattle.batch.specs.Batch.{costs, part}
 use Rattle.batch.specs.Largest.{U32s}
 
@@ -14,7 +14,7 @@ use Rattle.batch.specs.Largest.{U32s}
 pub costs-most : (l : List ℕ) → U32s l → (k : ℕ) → costs (take k l) ≤ 2 * k
 costs-most l h zero = zero-le
 costs-most [] h (suc k) = zero-le
-costs-most (n ∷ l) h (suc k) = omega (arith, full-most square u32 tt n (h 0), costs-most l (λ i. h (suc i)) k)
+costs-most (n ∷ l) h (suc k) = omega (arith, full-counts square u32 tt n (h 0) .1, costs-most l (λ i. h (suc i)) k)
 
 -- a part of a list of u32 values is one too
 take-u32s : (k : ℕ) (l : List ℕ) → U32s l → U32s (take k l)

@@ -8,7 +8,7 @@ use lib.ListN.{length, take, drop}
 use Rattle.defs.specs.Kinds.{square, u32}
 use Rattle.defs.specs.Roots.{rootOf}
 use Rattle.defs.specs.Cells.{fullSteps}
-use Rattle.defs.specs.Refusals.{answered, firstBeyond, countBeyond, lengthsDiffer}
+use Rattle.defs.specs.Refusals.{noRefusal, firstBeyond, countBeyond, lengthsDiffer}
 
 -- what one value costs: the steps of its full call
 abbrev pub costOf : ℕ → ℕ
@@ -31,10 +31,10 @@ part first count values = take count (drop first values)
 -- the refusal by the two numbers and the lengths of the two slices, in the order 2, 3, 4; else 0
 abbrev pub refusalOf : ℕ → ℕ → ℕ → ℕ → ℕ
 refusalOf first count values roots =
-    cond (ltb values first) firstBeyond (cond (ltb (values - first) count) countBeyond (cond (eqb values roots) answered lengthsDiffer))
+    cond (ltb values first) firstBeyond (cond (ltb (values - first) count) countBeyond (cond (eqb values roots) noRefusal lengthsDiffer))
 
 -- a batch that is refused: nothing done, nothing spent, and every root as it was
-pub record Refused (before : List ℕ) (done spent : ℕ) (after : List ℕ) : Type 0 where
+pub record NothingDone (before : List ℕ) (done spent : ℕ) (after : List ℕ) : Type 0 where
   pub none-done : done ≡ 0
   pub none-spent : spent ≡ 0
   pub unchanged : after ≡ before
@@ -49,5 +49,5 @@ pub record Ran (values before : List ℕ) (first budget done spent : ℕ) (after
 -- a batch, whole: its refusal, and what it then leaves
 pub record Batched (values before : List ℕ) (first count budget refusal done spent : ℕ) (after : List ℕ) : Type 0 where
   pub is-refusal : refusal ≡ refusalOf first count (length values) (length before)
-  pub if-refused : (refusal ≡ answered → ⊥) → Refused before done spent after
-  pub if-answered : refusal ≡ answered → Ran (part first count values) before first budget done spent after
+  pub if-refused : (refusal ≡ noRefusal → ⊥) → NothingDone before done spent after
+  pub if-answered : refusal ≡ noRefusal → Ran (part first count values) before first budget done spent after

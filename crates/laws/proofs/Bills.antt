@@ -11,7 +11,8 @@ use Rattle.defs.specs.Kinds.{Kind, pow, Width, u8}
 use Rattle.defs.specs.Roots.{RootRem, rootOf}
 use Rattle.defs.specs.Starts.{S, start8}
 use Rattle.defs.specs.Cells.{bound, startOf, stepsOf, shiftOf, raised, fullStart, fullSteps}
-use Rattle.defs.specs.Answers.{Full, Fixed, Normalised}
+use Rattle.defs.specs.Answers.{Full, Normalised}
+use Rattle.defs.specs.Parts.{Starts, Fixed}
 use Rattle.laws.proofs.Powers.{le-or-lt}
 use Rattle.laws.proofs.Roots.{one-root, one-answer, root-is, root-of-zero}
 
@@ -19,6 +20,15 @@ use Rattle.laws.proofs.Roots.{one-root, one-answer, root-is, root-of-ze
 pub not-lowered : (k : Kind) (w : Width) (n : ℕ) → pow k (S k w n) ≤ n → startOf k w n ≡ S k w n
 unfolding startOf
 not-lowered k w n h = rw (le-leb (pow k (S k w n)) n h)
+
+-- a fix-up from S starts and pays as defined
+pub billed : (k : Kind) (w : Width) {n start root rest steps : ℕ} → Starts k w n start → Fixed k n start root rest steps →
+    (start ≡ startOf k w n) × (steps ≡ stepsOf k w n)
+unfolding stepsOf
+billed k w {n} {start} {root} s f =
+    let is-start : start ≡ startOf k w n = s .is-S ∙ sym (not-lowered k w n (rw (s .is-S) at (s .fits))) in
+    let is-root : root ≡ rootOf k n = one-root k (f .root-rem .is-root) (root-is k n) in
+    (is-start, omega (arith, is-start, is-root, f .counted))
 
 -- no second answer fits a full call
 pub one-full : {k : Kind} {w : Width} {n a b c d a′ b′ c′ d′ : ℕ} → Full k w n a b c d → Full k w n a′ b′ c′ d′ →
@@ -37,7 +47,7 @@ one-normalised {k} {w} {n} {a} {b} {c} {d} {e} {a′} {b′} {c′} {d′} {e′
         let p = x .from-bound h in
         let q = y .from-bound h in
         let same = one-answer k (p .root-rem) (q .root-rem) in
-        (p .no-refusal ∙ sym (q .no-refusal), same .0, same .1, p .is-start ∙ sym (q .is-start), p .is-steps ∙ sym (q .is-steps))
+        (p .not-refused ∙ sym (q .not-refused), same .0, same .1, p .is-start ∙ sym (q .is-start), p .is-steps ∙ sym (q .is-steps))
     by-bound (inr h) =
         let p = x .below-bound h in
         let q = y .below-bound h in

@@ -7,7 +7,7 @@ use native.Mathlib.Nat.{mul-le-mul, mul-le-mul-left, le-trans, lt-of-le-of-lt, l
 use native.Mathlib.Omega.{arith}
 use lib.Dec.{lit≤}
 use Rattle.defs.specs.Kinds.{Kind, square, cube, pow, Width, u8, u16, u32, u64, bitsOf, rootBits}
-use Rattle.defs.specs.Answers.{Fixed}
+use Rattle.defs.specs.Parts.{Fixed}
 use Rattle.laws.proofs.Powers.{le-or-lt, gap, next-power, below}
 use Rattle.laws.proofs.Roots.{is-root}
 

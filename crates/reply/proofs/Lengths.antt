@@ -11,10 +11,10 @@ use borrow.Author.Tests.{eqb-false}
 use Rattle.defs.specs.Kinds.{Kind, square, cube, Width, u32, bitsOf, rootBits}
 use Rattle.defs.specs.Roots.{rootOf, restOf}
 use Rattle.defs.specs.Starts.{S}
-use Rattle.defs.specs.Cells.{IsNormal, startOf, stepsOf, raised, fullStart, fullSteps}
+use Rattle.defs.specs.Cells.{HasTopBits, startOf, stepsOf, raised, fullStart, fullSteps}
 use Rattle.laws.proofs.Roots.{root-is, comes-back, answer-is}
 use Rattle.laws.proofs.FixUp.{root-fits}
-use Rattle.laws.proofs.Shift.{Wide, shifted}
+use Rattle.laws.proofs.Shift.{Wide, raised-top}
 use Rattle.starts.proofs.Cells.{cells}
 use Rattle.text.specs.Decimal.{textOf}
 use Rattle.text.specs.Request.{kindOf, requestOf}
@@ -25,7 +25,7 @@ use Rattle.reply.specs.Reply.{answerOf, replyOf}
 use Rattle.reply.proofs.Replies.{answer-good, answer-bad}
 
 -- start and steps of a normalised value fit the root's type: neither is above its root
-normal-fits : (k : Kind) (w : Width) (n : ℕ) → IsNormal k w n → (startOf k w n < 2 ^ rootBits w) × (stepsOf k w n < 2 ^ rootBits w)
+normal-fits : (k : Kind) (w : Width) (n : ℕ) → HasTopBits k w n → (startOf k w n < 2 ^ rootBits w) × (stepsOf k w n < 2 ^ rootBits w)
 unfolding stepsOf
 normal-fits k w n h =
     let root : rootOf k n < 2 ^ rootBits w = root-fits k w (rootOf k n) n (root-is k n .fits) (h .in-width) in
@@ -43,7 +43,7 @@ full-fits k w v n h = by-test (eqb n 0) refl
 
     by-test : (t : Bool) → eqb n 0 ≡ t → (cond t 0 (startOf k w top) < 2 ^ rootBits w) × (cond t 0 (stepsOf k w top) < 2 ^ rootBits w)
     by-test true e = (pow-pos (rootBits w), pow-pos (rootBits w))
-    by-test false e = normal-fits k w top (shifted k w v (omega (arith, eqb-false n 0 e)) h .is-normal)
+    by-test false e = normal-fits k w top (raised-top k w v (omega (arith, eqb-false n 0 e)) h)
 
 -- a line is its name, its text and a newline
 line-length : (name text : List ℕ) → length (line name text) ≡ length name + length text + 1

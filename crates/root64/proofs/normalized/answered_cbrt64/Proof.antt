@@ -1,12 +1,12 @@
 -- `root64::normalized::answered_cbrt64` meets its contract: the cell of cubes at 64 bits. Assumes nothing.
 use borrow.Author.Needs.{needs}
 use Rattle.defs.specs.Kinds.{cube, u64}
-use Rattle.defs.specs.Cells.{IsNormal}
+use Rattle.defs.specs.Cells.{HasTopBits}
 use Rattle.starts.proofs.Calls.{startable, answers}
 use Rattle.root64.proofs.normalized.answered_cbrt64.Statement.{statement}
 use Rattle.root64.proofs.normalized.answered_cbrt64.Tie as tie
 
-normal : (c : tie.Start) → IsNormal cube u64 (c .args .n)
+normal : (c : tie.Start) → HasTopBits cube u64 (c .args .n)
 normal c = record { from-bound = c .pre; in-width = c .fits .n .fits }
 
 pub answered-cbrt64-spec : {M : Type 1} → statement M
