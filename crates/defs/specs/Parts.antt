@@ -6,11 +6,12 @@ use Rattle.defs.specs.Roots.{RootRem}
 use Rattle.defs.specs.Starts.{S}
 use Rattle.defs.specs.Cells.{bound, shiftOf}
 
--- the shift of n: it stays within the width, there and back, and n shifted by it has its top bits
-pub record Shifts (k : Kind) (w : Width) (n shift : ℕ) : Type 0 where
+-- the shift of n and the half or third by which its root goes back: both stay within their widths, and n shifted has its top bits
+pub record Shifts (k : Kind) (w : Width) (n shift back : ℕ) : Type 0 where
   pub is-shift : shift ≡ shiftOf k w n
+  pub is-back : back ≡ shift / degree k
   pub in-width : shift < bitsOf w
-  pub back-in-width : shift / degree k < rootBits w
+  pub back-in-width : back < rootBits w
   pub to-bound : bound k w ≤ (n * 2 ^ shift) % 2 ^ bitsOf w
 
 -- the start of n: S, whose power is at most n

@@ -97,18 +97,20 @@ half-of-bits cube u32 s v h = omega arith
 half-of-bits cube u64 s v h = omega arith
 
 -- what a full call knows once it has the shift of a value that is not 0
-pub shifts : (k : Kind) (w : Width) → Wide w → {n shift : ℕ} → 0 < n → n < 2 ^ bitsOf w → shift ≡ shiftOf k w n → Shifts k w n shift
-shifts k w v {n} {shift} p h e =
+pub shifts : (k : Kind) (w : Width) → Wide w → {n shift back : ℕ} → 0 < n → n < 2 ^ bitsOf w → shift ≡ shiftOf k w n →
+    back ≡ shift / degree k → Shifts k w n shift back
+shifts k w v {n} {shift} p h e b =
     let l = lifted k w v n p h in
     record {
       is-shift = e;
+      is-back = b;
       in-width = rw e (l .short);
-      back-in-width = rw e (half-of-bits k w (shiftOf k w n) v (l .short));
+      back-in-width = rw (b, e) (half-of-bits k w (shiftOf k w n) v (l .short));
       to-bound = rw (e, mod-eq-of-lt (l .kept), ← (bound-is k w v)) (l .topped);
     }
 
 -- the machine's shift is the value brought to its top bits: nothing is cut off
-pub raises : (k : Kind) (w : Width) → Wide w → {n shift : ℕ} → 0 < n → n < 2 ^ bitsOf w → Shifts k w n shift →
+pub raises : (k : Kind) (w : Width) → Wide w → {n shift back : ℕ} → 0 < n → n < 2 ^ bitsOf w → Shifts k w n shift back →
     (n * 2 ^ shift) % 2 ^ bitsOf w ≡ raised k w n
 unfolding raised
 raises k w v {n} p h s = rw (s .is-shift) (mod-eq-of-lt (lifted k w v n p h .kept))

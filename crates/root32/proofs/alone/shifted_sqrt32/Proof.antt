@@ -1,0 +1,24 @@
+-- `root32::alone::shifted_sqrt32` meets its contract: the law of shifts, at squares of 32 bits. Assumes nothing.
+use borrow.Author.Needs.{needs}
+use Rattle.defs.specs.Kinds.{square, u32}
+use Rattle.laws.proofs.Full.{root-back-of}
+use Rattle.root32.proofs.alone.shifted_sqrt32.Statement.{statement}
+use Rattle.root32.proofs.alone.shifted_sqrt32.Tie as tie
+
+returns : tie.Need-returns
+returns c =
+    let f = c .before in
+    let n = f .before .before .before in
+    root-back-of square u32 tt (n .pre) (n .fits .n .fits) (f .before .before .shift-sqrt32 .ensures) (f .fix-sqrt-error32 .ensures .root-rem .is-root)
+
+pub shifted-sqrt32-spec : {M : Type 1} → statement M
+shifted-sqrt32-spec =
+    tie.close
+    (tie.spec
+    (λ c κs. search needs)
+    (λ c. search needs)
+    (λ c κs. search needs)
+    (λ c κs. search needs)
+    (λ c. search needs)
+    (λ c. search needs)
+    returns)

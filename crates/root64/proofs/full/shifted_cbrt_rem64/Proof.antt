@@ -1,0 +1,37 @@
+-- `root64::full::shifted_cbrt_rem64` meets its contract: the law of shifts, at cubes of 64 bits. Assumes nothing.
+use Prim.Native.Nat.{_/_, _^_}
+use native.Mathlib.Nat.{lt-of-le-of-lt}
+use borrow.Author.Needs.{needs}
+use Rattle.defs.specs.Kinds.{cube, u64}
+use Rattle.defs.specs.Roots.{IsRoot}
+use Rattle.laws.proofs.Full.{root-back-of, answer-back}
+use Rattle.root64.proofs.full.shifted_cbrt_rem64.Statement.{statement}
+use Rattle.root64.proofs.full.shifted_cbrt_rem64.Tie as tie
+
+-- the root, shifted back
+is-root : (c : tie.After-struct-known) → IsRoot cube (c .before .before .before .before .args .n) (c .before .fix-cbrt-error64 .result .root / 2 ^ c .before .before .before .third-cbrt64 .result)
+is-root c =
+    let f = c .before in
+    let n = f .before .before .before in
+    root-back-of cube u64 tt (n .pre) (n .fits .n .fits) (f .before .before .third-cbrt64 .ensures) (f .fix-cbrt-error64 .ensures .root-rem .is-root)
+
+returns : tie.Need-returns
+returns c =
+    let f = c .before .before in
+    let n = f .before .before .before in
+    answer-back cube u64 tt (n .pre) (n .fits .n .fits) (f .before .before .third-cbrt64 .ensures) (f .before .start-cbrt64 .ensures) (f .fix-cbrt-error64 .ensures) (rw (c .cube64 .ensures))
+
+pub shifted-cbrt-rem64-spec : {M : Type 1} → statement M
+shifted-cbrt-rem64-spec =
+    tie.close
+    (tie.spec
+    (λ c κs. search needs)
+    (λ c. search needs)
+    (λ c. search needs)
+    (λ c. search needs)
+    (λ c κs. search needs)
+    (λ c κs. search needs)
+    (λ c. search needs)
+    (λ c κs. lt-of-le-of-lt (is-root c .fits) (c .before .before .before .before .fits .n .fits))
+    (λ c. rw (c .cube64 .ensures) (is-root (c .before) .fits))
+    returns)
