@@ -1,6 +1,6 @@
 -- `root16::full::shifted_cbrt_rem16` meets its contract: the law of shifts, at cubes of 16 bits. Assumes nothing.
 use Prim.Native.Nat.{_/_, _^_}
-use native.Mathlib.Nat.{lt-of-le-of-lt}
+use native.Mathlib.Omega.{arith}
 use borrow.Author.Needs.{needs}
 use Rattle.defs.specs.Kinds.{cube, u16}
 use Rattle.defs.specs.Roots.{IsRoot}
@@ -19,7 +19,8 @@ returns : tie.Need-returns
 returns c =
     let f = c .before .before in
     let n = f .before .before .before in
-    answer-back cube u16 tt (n .pre) (n .fits .n .fits) (f .before .before .third-cbrt16 .ensures) (f .before .start-cbrt16 .ensures) (f .fix-cbrt-error16 .ensures) (rw (c .cube16 .ensures))
+    answer-back cube u16 tt (n .pre) (n .fits .n .fits) (f .before .before .third-cbrt16 .ensures) (f .before .start-cbrt16 .ensures) (f .fix-cbrt-error16 .ensures)
+    (omega (arith, c .cube16 .ensures))
 
 pub shifted-cbrt-rem16-spec : {M : Type 1} → statement M
 shifted-cbrt-rem16-spec =
@@ -33,6 +34,6 @@ shifted-cbrt-rem16-spec =
     (λ c κs. search needs)
     (λ c. search needs)
     (λ c. search needs)
-    (λ c κs. lt-of-le-of-lt (is-root c .fits) (c .before .before .before .before .fits .n .fits))
-    (λ c. rw (c .cube16 .ensures) (is-root (c .before) .fits))
+    (λ c κs. omega (arith, is-root c .fits, c .before .before .before .before .fits .n .fits))
+    (λ c. omega (arith, c .cube16 .ensures, is-root (c .before) .fits))
     returns)

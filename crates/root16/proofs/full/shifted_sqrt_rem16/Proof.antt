@@ -1,5 +1,6 @@
 -- `root16::full::shifted_sqrt_rem16` meets its contract: the law of shifts, at squares of 16 bits. Assumes nothing.
 use Prim.Native.Nat.{_/_, _^_}
+use native.Mathlib.Omega.{arith}
 use borrow.Author.Needs.{needs}
 use Rattle.defs.specs.Kinds.{square, u16}
 use Rattle.defs.specs.Roots.{IsRoot}
@@ -18,7 +19,8 @@ returns : tie.Need-returns
 returns c =
     let f = c .before .before in
     let n = f .before .before .before in
-    answer-back square u16 tt (n .pre) (n .fits .n .fits) (f .before .before .shift-sqrt16 .ensures) (f .before .start-sqrt16 .ensures) (f .fix-sqrt-error16 .ensures) (rw (c .square16 .ensures))
+    answer-back square u16 tt (n .pre) (n .fits .n .fits) (f .before .before .shift-sqrt16 .ensures) (f .before .start-sqrt16 .ensures) (f .fix-sqrt-error16 .ensures)
+    (omega (arith, c .square16 .ensures))
 
 pub shifted-sqrt-rem16-spec : {M : Type 1} → statement M
 shifted-sqrt-rem16-spec =
@@ -32,5 +34,5 @@ shifted-sqrt-rem16-spec =
     (λ c. search needs)
     (λ c. search needs)
     (λ c κs. search needs)
-    (λ c. rw (c .square16 .ensures) (is-root (c .before) .fits))
+    (λ c. omega (arith, c .square16 .ensures, is-root (c .before) .fits))
     returns)

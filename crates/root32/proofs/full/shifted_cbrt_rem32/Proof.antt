@@ -1,6 +1,6 @@
 -- `root32::full::shifted_cbrt_rem32` meets its contract: the law of shifts, at cubes of 32 bits. Assumes nothing.
 use Prim.Native.Nat.{_/_, _^_}
-use native.Mathlib.Nat.{lt-of-le-of-lt}
+use native.Mathlib.Omega.{arith}
 use borrow.Author.Needs.{needs}
 use Rattle.defs.specs.Kinds.{cube, u32}
 use Rattle.defs.specs.Roots.{IsRoot}
@@ -19,7 +19,8 @@ returns : tie.Need-returns
 returns c =
     let f = c .before .before in
     let n = f .before .before .before in
-    answer-back cube u32 tt (n .pre) (n .fits .n .fits) (f .before .before .third-cbrt32 .ensures) (f .before .start-cbrt32 .ensures) (f .fix-cbrt-error32 .ensures) (rw (c .cube32 .ensures))
+    answer-back cube u32 tt (n .pre) (n .fits .n .fits) (f .before .before .third-cbrt32 .ensures) (f .before .start-cbrt32 .ensures) (f .fix-cbrt-error32 .ensures)
+    (omega (arith, c .cube32 .ensures))
 
 pub shifted-cbrt-rem32-spec : {M : Type 1} → statement M
 shifted-cbrt-rem32-spec =
@@ -32,6 +33,6 @@ shifted-cbrt-rem32-spec =
     (λ c κs. search needs)
     (λ c. search needs)
     (λ c. search needs)
-    (λ c κs. lt-of-le-of-lt (is-root c .fits) (c .before .before .before .before .fits .n .fits))
-    (λ c. rw (c .cube32 .ensures) (is-root (c .before) .fits))
+    (λ c κs. omega (arith, is-root c .fits, c .before .before .before .before .fits .n .fits))
+    (λ c. omega (arith, c .cube32 .ensures, is-root (c .before) .fits))
     returns)

@@ -1,5 +1,6 @@
 -- `root32::full::shifted_sqrt_rem32` meets its contract: the law of shifts, at squares of 32 bits. Assumes nothing.
 use Prim.Native.Nat.{_/_, _^_}
+use native.Mathlib.Omega.{arith}
 use borrow.Author.Needs.{needs}
 use Rattle.defs.specs.Kinds.{square, u32}
 use Rattle.defs.specs.Roots.{IsRoot}
@@ -18,7 +19,8 @@ returns : tie.Need-returns
 returns c =
     let f = c .before .before in
     let n = f .before .before .before in
-    answer-back square u32 tt (n .pre) (n .fits .n .fits) (f .before .before .shift-sqrt32 .ensures) (f .before .start-sqrt32 .ensures) (f .fix-sqrt-error32 .ensures) (rw (c .square32 .ensures))
+    answer-back square u32 tt (n .pre) (n .fits .n .fits) (f .before .before .shift-sqrt32 .ensures) (f .before .start-sqrt32 .ensures) (f .fix-sqrt-error32 .ensures)
+    (omega (arith, c .square32 .ensures))
 
 pub shifted-sqrt-rem32-spec : {M : Type 1} → statement M
 shifted-sqrt-rem32-spec =
@@ -31,5 +33,5 @@ shifted-sqrt-rem32-spec =
     (λ c. search needs)
     (λ c. search needs)
     (λ c κs. search needs)
-    (λ c. rw (c .square32 .ensures) (is-root (c .before) .fits))
+    (λ c. omega (arith, c .square32 .ensures, is-root (c .before) .fits))
     returns)
