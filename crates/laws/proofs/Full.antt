@@ -24,13 +24,13 @@ own-answer k w v {n} b h s f =
 
 -- any other value that is not 0 has its root by shifting back
 module _ (k : Kind) (w : Width) (v : Wide w) {n shift back : ℕ} (p : 0 < n) (h : n < 2 ^ bitsOf w) (s : Shifts k w n shift back) where
-  pub root-back-of : {top : ℕ} → IsRoot k ((n * 2 ^ shift) % 2 ^ bitsOf w) top → IsRoot k n (top / 2 ^ back)
-  root-back-of r = rw (s .is-back, s .is-shift) (root-shifted-back k w (rw (raises k w v p h s) at r))
+  pub root-back-of : {top root : ℕ} → IsRoot k ((n * 2 ^ shift) % 2 ^ bitsOf w) top → root ≡ top / 2 ^ back → IsRoot k n root
+  root-back-of r e = rw (e, s .is-back, s .is-shift) (root-shifted-back k w (rw (raises k w v p h s) at r))
 
   -- and its rest worked out anew
-  pub answer-back : {start top left steps rest : ℕ} → Starts k w ((n * 2 ^ shift) % 2 ^ bitsOf w) start →
-      Fixed k ((n * 2 ^ shift) % 2 ^ bitsOf w) start top left steps → rest ≡ n - pow k (top / 2 ^ back) →
-      Full k w n (top / 2 ^ back) rest start steps
-  answer-back t f anew =
+  pub answer-back : {start top left steps root rest : ℕ} → Starts k w ((n * 2 ^ shift) % 2 ^ bitsOf w) start →
+      Fixed k ((n * 2 ^ shift) % 2 ^ bitsOf w) start top left steps → root ≡ top / 2 ^ back → rest ≡ n - pow k root →
+      Full k w n root rest start steps
+  answer-back t f e anew =
       let bill = rw (raises k w v p h s) at (billed k w t f) in
-      full-raised k w (not-zero p) (record { is-root = root-back-of (f .root-rem .is-root); is-rest = anew }) (bill .0) (bill .1)
+      full-raised k w (not-zero p) (record { is-root = root-back-of (f .root-rem .is-root) e; is-rest = anew }) (bill .0) (bill .1)

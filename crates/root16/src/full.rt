@@ -47,7 +47,7 @@ pub fn sqrt_rem(n: u16) -> RootRem16
     shifted_sqrt_rem16(n)
 }
 
-// The rest of the shifted value is not the value's own: it is worked out anew.
+// The normalised root is shifted back, and the rest worked out anew: shifted back, it would be another number.
 fn shifted_sqrt_rem16(n: u16) -> RootRem16
     requires { ⌜ 0 < n ⌝ }
     ensures { λ r. ⌜ Full square u16 n (r .root) (r .rest) (r .start) (r .steps) ⌝ }
@@ -56,7 +56,8 @@ fn shifted_sqrt_rem16(n: u16) -> RootRem16
     let top = n << shift;
     let start = start_sqrt16(top);
     let fixed = fix_sqrt_error16(top, start);
-    let root = fixed.root >> (shift / 2);
+    let normalised = fixed.root;
+    let root = normalised >> (shift / 2);
     RootRem16 {
         root: root,
         rest: n - square16(root),
@@ -92,7 +93,8 @@ fn shifted_cbrt_rem16(n: u16) -> RootRem16
     let top = n << (3 * third);
     let start = start_cbrt16(top);
     let fixed = fix_cbrt_error16(top, start);
-    let root = fixed.root >> third;
+    let normalised = fixed.root;
+    let root = normalised >> third;
     RootRem16 {
         root: root,
         rest: n - cube16(root),

@@ -47,7 +47,7 @@ pub fn sqrt_rem(n: u32) -> RootRem32
     shifted_sqrt_rem32(n)
 }
 
-// The rest of the shifted value is not the value's own: it is worked out anew.
+// The normalised root is shifted back, and the rest worked out anew: shifted back, it would be another number.
 fn shifted_sqrt_rem32(n: u32) -> RootRem32
     requires { ⌜ 0 < n ⌝ }
     ensures { λ r. ⌜ Full square u32 n (r .root) (r .rest) (r .start) (r .steps) ⌝ }
@@ -56,7 +56,8 @@ fn shifted_sqrt_rem32(n: u32) -> RootRem32
     let top = n << shift;
     let start = start_sqrt32(top);
     let fixed = fix_sqrt_error32(top, start);
-    let root = fixed.root >> (shift / 2);
+    let normalised = fixed.root;
+    let root = normalised >> (shift / 2);
     RootRem32 {
         root: root,
         rest: n - square32(root),
@@ -92,7 +93,8 @@ fn shifted_cbrt_rem32(n: u32) -> RootRem32
     let top = n << (3 * third);
     let start = start_cbrt32(top);
     let fixed = fix_cbrt_error32(top, start);
-    let root = fixed.root >> third;
+    let normalised = fixed.root;
+    let root = normalised >> third;
     RootRem32 {
         root: root,
         rest: n - cube32(root),

@@ -47,7 +47,7 @@ pub fn sqrt_rem(n: u64) -> RootRem64
     shifted_sqrt_rem64(n)
 }
 
-// The rest of the shifted value is not the value's own: it is worked out anew.
+// The normalised root is shifted back, and the rest worked out anew: shifted back, it would be another number.
 fn shifted_sqrt_rem64(n: u64) -> RootRem64
     requires { ⌜ 0 < n ⌝ }
     ensures { λ r. ⌜ Full square u64 n (r .root) (r .rest) (r .start) (r .steps) ⌝ }
@@ -56,7 +56,8 @@ fn shifted_sqrt_rem64(n: u64) -> RootRem64
     let top = n << shift;
     let start = start_sqrt64(top);
     let fixed = fix_sqrt_error64(top, start);
-    let root = fixed.root >> (shift / 2);
+    let normalised = fixed.root;
+    let root = normalised >> (shift / 2);
     RootRem64 {
         root: root,
         rest: n - square64(root),
@@ -92,7 +93,8 @@ fn shifted_cbrt_rem64(n: u64) -> RootRem64
     let top = n << (3 * third);
     let start = start_cbrt64(top);
     let fixed = fix_cbrt_error64(top, start);
-    let root = fixed.root >> third;
+    let normalised = fixed.root;
+    let root = normalised >> third;
     RootRem64 {
         root: root,
         rest: n - cube64(root),

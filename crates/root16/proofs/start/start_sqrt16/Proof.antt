@@ -20,7 +20,9 @@ sub-result c =
 
 cast-result : tie.Need-cast-result
 unfolding r S
-cast-result c = rw (c .rsqrt-guess .ensures .0) (record { fits = safe (c .before .args .n) (c .before .pre) (c .before .fits .n .fits) .fits })
+cast-result c =
+    rw (c .rsqrt-guess .ensures .0)
+    (omega (arith, safe (c .before .args .n) (c .before .pre) (c .before .fits .n .fits) .fits))
 
 returns : tie.Need-returns
 unfolding r S

@@ -11,7 +11,7 @@ returns : tie.Need-returns-2
 returns c =
     let f = c .before in
     let n = f .before .before .before in
-    root-back-of square u32 tt (omega (arith, n .if1 .left)) (n .before .fits .n .fits) (f .before .before .shift-sqrt32 .ensures) (f .fix-sqrt-error32 .ensures .root-rem .is-root)
+    root-back-of square u32 tt (omega (arith, n .if1 .left)) (n .before .fits .n .fits) (f .before .before .shift-sqrt32 .ensures) (f .fix-sqrt-error32 .ensures .root-rem .is-root) (omega arith)
 
 pub sqrt-spec : {M : Type 1} → statement M
 sqrt-spec =

@@ -28,4 +28,4 @@ fix-sqrt-error64-spec =
     (λ c. omega arith)
     (λ c. goes-on (c .before .loop .inv) (c .loop-test .taken))
     (λ c. omega arith)
-    (λ c. ends (c .before .loop .inv) (c .loop-test .left)))
+    (λ c. ends (c .before .loop .inv) (c .loop-test .left) (omega (arith, c .before .loop .inv .passed))))

@@ -33,4 +33,4 @@ fix-cbrt-error8-spec =
     (λ c. omega arith)
     (λ c. goes-on (c .before .loop .inv) (c .loop-test .taken))
     (λ c. omega arith)
-    (λ c. ends (c .before .loop .inv) (c .loop-test .left)))
+    (λ c. ends (c .before .loop .inv) (c .loop-test .left) (omega (arith, c .before .loop .inv .passed))))
