@@ -27,7 +27,7 @@ costs-rise (n ∷ l) (suc j) (suc k) h = omega (arith, costs-rise l j k (le-of-s
 costs-most : (l : List ℕ) → U32s l → (k : ℕ) → costs (take k l) ≤ 2 * k
 costs-most l h zero = zero-le
 costs-most [] h (suc k) = zero-le
-costs-most (n ∷ l) h (suc k) = omega (arith, full-counts square u32 tt n (h 0) .1, costs-most l (λ i. h (suc i)) k)
+costs-most (n ∷ l) h (suc k) = omega (arith, full-counts square u32 n (h 0) .1, costs-most l (λ i. h (suc i)) k)
 
 -- and so do those of a part of it
 pub part-most : (first count : ℕ) (l : List ℕ) → U32s l → (k : ℕ) → k ≤ count → costs (take k (part first count l)) ≤ 2 * k

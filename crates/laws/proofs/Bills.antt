@@ -3,17 +3,17 @@ use mathlib.Core.Path.{_≡_, refl, sym, _∙_}
 use mathlib.Core.Bool.{Bool, true, false}
 use mathlib.Core.Logic.{_⊎_, inl, inr}
 use Prim.Native.Nat.{ℕ, _≤_, _<_}
-use native.Mathlib.Nat.{mul-one}
 use native.Mathlib.Omega.{arith}
 use lib.Dec.{eqb}
 use borrow.Author.Tests.{le-leb, eq-eqb, ne-eqb, eqb-true, eqb-false}
 use Rattle.defs.specs.Kinds.{Kind, pow, Width, u8}
 use Rattle.defs.specs.Roots.{RootRem, rootOf}
 use Rattle.defs.specs.Starts.{S, start8}
-use Rattle.defs.specs.Cells.{bound, startOf, stepsOf, shiftOf, raised, fullStart, fullSteps}
+use Rattle.defs.specs.Cells.{bound, startOf, stepsOf, raised, fullStart, fullSteps}
 use Rattle.defs.specs.Answers.{Full, Normalised}
 use Rattle.defs.specs.Parts.{Starts, Fixed}
 use Rattle.laws.proofs.Powers.{le-or-lt}
+use Rattle.laws.proofs.Shift.{raised-8}
 use Rattle.laws.proofs.Roots.{one-root, one-answer, root-is, root-of-zero}
 
 -- where the power of S is at most n the start is S
@@ -73,10 +73,6 @@ full-raised k w {n} p answer started stepped = record {
 }
 
 -- the u8 bill: a search from 0 answers with its root for a start, and no steps
-raised-8 : (k : Kind) (n : ℕ) → raised k u8 n ≡ n
-unfolding raised shiftOf
-raised-8 k n = mul-one n
-
 started-8 : (k : Kind) (n : ℕ) → startOf k u8 n ≡ rootOf k n
 unfolding start8
 started-8 k n = not-lowered k u8 n (root-is k n .fits)

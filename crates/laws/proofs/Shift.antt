@@ -1,7 +1,7 @@
 -- Bringing a value to its top bits, and its root back: left by a multiple of the degree, right by that many bits. Assumes nothing.
 use mathlib.Core.Path.{_≡_, refl, sym, ap, _∙_}
 use mathlib.Core.Logic.{_⊎_, inl, inr}
-use Prim.Native.Nat.{ℕ, suc, _+_, _*_, _-_, _/_, _%_, _^_, _≤_, _<_}
+use Prim.Native.Nat.{ℕ, suc, _+_, _*_, _-_, _/_, _%_, _^_, _≤_, _<_, zero-le}
 use native.Mathlib.Nat.{mul-one, lt-irrefl, lt-of-le-of-lt, le-trans, lt-of-lt-of-le, le-of-eq, mul-le-mul-right, le-of-mul-le-mul-right, lt-of-mul-lt-mul-right, div-mul-le-self, lt-div-mul-add, mod-lt, mod-eq-of-lt, div-add-mod, mul-div-right}
 use native.Mathlib.Omega.{arith}
 use lib.Dec.{lit≤, lit<}
@@ -115,11 +115,23 @@ pub raises : (k : Kind) (w : Width) → Wide w → {n shift back : ℕ} → 0 < 
 unfolding raised
 raises k w v {n} p h s = rw (s .is-shift) (mod-eq-of-lt (lifted k w v n p h .kept))
 
-pub raised-top : (k : Kind) (w : Width) → Wide w → {n : ℕ} → 0 < n → n < 2 ^ bitsOf w → HasTopBits k w (raised k w n)
+lifted-top : (k : Kind) (w : Width) → Wide w → {n : ℕ} → 0 < n → n < 2 ^ bitsOf w → HasTopBits k w (raised k w n)
 unfolding raised
-raised-top k w v {n} p h =
+lifted-top k w v {n} p h =
     let l = lifted k w v n p h in
     record { from-bound = rw (← (bound-is k w v)) (l .topped); in-width = l .kept }
+
+-- a u8 is not shifted
+pub raised-8 : (k : Kind) (n : ℕ) → raised k u8 n ≡ n
+unfolding raised shiftOf
+raised-8 k n = mul-one n
+
+-- at every width the value brought to its top bits is normalised
+pub raised-top : (k : Kind) (w : Width) {n : ℕ} → 0 < n → n < 2 ^ bitsOf w → HasTopBits k w (raised k w n)
+raised-top k u8 {n} p h = rw (raised-8 k n) (record { from-bound = zero-le; in-width = h })
+raised-top k u16 p h = lifted-top k u16 tt p h
+raised-top k u32 p h = lifted-top k u32 tt p h
+raised-top k u64 p h = lifted-top k u64 tt p h
 
 -- the root of the value brought to its top bits, shifted back, is the value's root
 pub root-shifted-back : (k : Kind) (w : Width) {n a : ℕ} → IsRoot k (raised k w n) a → IsRoot k n (a / 2 ^ (shiftOf k w n / degree k))

@@ -12,7 +12,7 @@ use Rattle.defs.specs.Roots.{rootOf, restOf}
 use Rattle.defs.specs.Cells.{raised, fullStart, fullSteps}
 use Rattle.laws.proofs.Roots.{root-is, comes-back, answer-is}
 use Rattle.laws.proofs.FixUp.{root-fits}
-use Rattle.laws.proofs.Shift.{Wide, raised-top}
+use Rattle.laws.proofs.Shift.{raised-top}
 use Rattle.starts.proofs.Calls.{full-counts}
 use Rattle.text.specs.Decimal.{textOf}
 use Rattle.text.specs.Request.{kindOf, requestOf}
@@ -23,16 +23,16 @@ use Rattle.reply.specs.Reply.{answerOf, replyOf}
 use Rattle.reply.proofs.Replies.{answer-good, answer-bad}
 
 -- a value brought to its top bits stays within its width
-raised-fits : (k : Kind) (w : Width) → Wide w → (n : ℕ) → n < 2 ^ bitsOf w → raised k w n < 2 ^ bitsOf w
+raised-fits : (k : Kind) (w : Width) (n : ℕ) → n < 2 ^ bitsOf w → raised k w n < 2 ^ bitsOf w
 unfolding raised
-raised-fits k w v zero h = rw zero-mul h
-raised-fits k w v (suc n) h = raised-top k w v (omega arith) h .in-width
+raised-fits k w zero h = rw zero-mul h
+raised-fits k w (suc n) h = raised-top k w (omega arith) h .in-width
 
 -- so start and steps of a full call, which add up to its root, fit the root's type
-full-fits : (k : Kind) (w : Width) → Wide w → (n : ℕ) → n < 2 ^ bitsOf w → fullStart k w n + fullSteps k w n < 2 ^ rootBits w
-full-fits k w v n h =
+full-fits : (k : Kind) (w : Width) (n : ℕ) → n < 2 ^ bitsOf w → fullStart k w n + fullSteps k w n < 2 ^ rootBits w
+full-fits k w n h =
     let top : ℕ = raised k w n in
-    rw (full-counts k w v n h .0) (root-fits k w (rootOf k top) top (root-is k top .fits) (raised-fits k w v n h))
+    rw (full-counts k w n h .0) (root-fits k w (rootOf k top) top (root-is k top .fits) (raised-fits k w n h))
 
 -- a line is its name, its text and a newline
 line-length : (name text : List ℕ) → length (line name text) ≡ length name + length text + 1
@@ -46,7 +46,7 @@ number-length name n h = omega (arith, line-length name (textOf n), text-length-
 answer-length : (k : Kind) (v : ℕ) → v < 2 ^ 32 → length (answerOf k u32 v) ≤ 128
 unfolding answerOf askedLines foundLines
 answer-length k v h =
-    let bill = full-fits k u32 tt v h in
+    let bill = full-fits k u32 v h in
     let root : rootOf k v < 2 ^ 16 = root-fits k u32 (rootOf k v) v (root-is k v .fits) h in
     let back = comes-back k (answer-is k v) in
     simp length-append

@@ -16,7 +16,7 @@ use Rattle.defs.specs.Parts.{Starts, Fixed}
 use Rattle.laws.proofs.Powers.{below}
 use Rattle.laws.proofs.Roots.{one-root, root-is, root-of-zero}
 use Rattle.laws.proofs.Bills.{billed}
-use Rattle.laws.proofs.Shift.{Wide, raised-top}
+use Rattle.laws.proofs.Shift.{raised-top}
 use Rattle.starts.proofs.Cells.{cells}
 
 -- S is a start that the fix-up can be handed
@@ -61,14 +61,14 @@ unfolding raised
 raised-zero k w n e = rw e (zero-mul (2 ^ shiftOf k w 0))
 
 -- so do those of a full call, to the root of the value brought to its top bits; the value 0 pays nothing
-pub full-counts : (k : Kind) (w : Width) → Wide w → (n : ℕ) → n < 2 ^ bitsOf w →
+pub full-counts : (k : Kind) (w : Width) (n : ℕ) → n < 2 ^ bitsOf w →
     (fullStart k w n + fullSteps k w n ≡ rootOf k (raised k w n)) × (fullSteps k w n ≤ ceiling k w)
 unfolding fullStart fullSteps
-full-counts k w v n h = by-test (eqb n 0) refl
+full-counts k w n h = by-test (eqb n 0) refl
   where
     top : ℕ
     top = raised k w n
 
     by-test : (t : Bool) → eqb n 0 ≡ t → (cond t 0 (startOf k w top) + cond t 0 (stepsOf k w top) ≡ rootOf k top) × (cond t 0 (stepsOf k w top) ≤ ceiling k w)
     by-test true e = (one-root k (root-of-zero k top (raised-zero k w n (eqb-true n 0 e))) (root-is k top), zero-le)
-    by-test false e = counts k w top (raised-top k w v (omega (arith, eqb-false n 0 e)) h)
+    by-test false e = counts k w top (raised-top k w (omega (arith, eqb-false n 0 e)) h)
