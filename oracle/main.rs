@@ -1,4 +1,4 @@
-// Writes the list of the Rust's answers to standard output, as runs of 32 bytes (oracle/README.md).
+// Writes the list of the Rust's answers to standard output, as runs of 32 bytes (oracle/README.md); asked for `tables`, its tables.
 mod starts;
 mod values;
 include!("traits.rs");
@@ -82,7 +82,19 @@ fn write_run(out: &mut Vec<u8>, kind: Kind, width: u32, a: &Answer, count: u16) 
     out.extend([kind.degree() as u8, width as u8, a.steps, 0, 0, 0]);
 }
 
+// The Rust's two tables, an entry to a line.
+fn write_tables() {
+    for (name, table) in ring::root::TABLES {
+        for (i, entry) in table.iter().enumerate() {
+            println!("{name}[{i}] = {entry}");
+        }
+    }
+}
+
 fn main() {
+    if std::env::args().nth(1).as_deref() == Some("tables") {
+        return write_tables();
+    }
     let mut out = Vec::new();
     for width in [8, 16, 32, 64] {
         for kind in [Kind::Square, Kind::Cube] {

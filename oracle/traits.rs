@@ -39,6 +39,7 @@ pub mod ring {
         pub fn u(i: usize) -> u128 {
             RCBRT_TAB[i] as u128
         }
+        pub const TABLES: [(&str, &[u8]); 2] = [("RSQRT_TAB", &RSQRT_TAB), ("RCBRT_TAB", &RCBRT_TAB)];
     }
 }
 pub mod math {

@@ -12,7 +12,7 @@ typedef struct vector {
 
 static const char *reason(uint8_t refusal) {
     switch (refusal) {
-    case FREGNAUL_ANSWERED: return "answered";
+    case FREGNAUL_NO_REFUSAL: return "answered";
     case FREGNAUL_NOT_NORMALIZED: return "not normalised";
     case FREGNAUL_FIRST_BEYOND: return "first beyond the values";
     case FREGNAUL_COUNT_BEYOND: return "count beyond the values";
@@ -66,7 +66,7 @@ static void print_refused_batch(const uint32_t squared[PAIRS], uint16_t roots[PA
 
 static void print_normalized(uint32_t n) {
     fregnaul_normalized_root_rem_u32 r = fregnaul_normalized_sqrt_rem_u32(n);
-    if (r.refusal == FREGNAUL_ANSWERED)
+    if (r.refusal == FREGNAUL_NO_REFUSAL)
         printf("normalised %" PRIu32 ": root %" PRIu16 ", start %" PRIu16 ", %" PRIu16 " steps\n", n, r.root, r.start, r.steps);
     else
         printf("normalised %" PRIu32 ": refusal %d, %s\n", n, r.refusal, reason(r.refusal));
@@ -74,7 +74,7 @@ static void print_normalized(uint32_t n) {
 
 static void print_rebuilt(uint16_t root, uint32_t rest) {
     fregnaul_rebuilt_u32 r = fregnaul_rebuild_cube_u32(root, rest);
-    if (r.refusal == FREGNAUL_ANSWERED)
+    if (r.refusal == FREGNAUL_NO_REFUSAL)
         printf("cube of %" PRIu16 " and %" PRIu32 ": %" PRIu32 "\n", root, rest, r.value);
     else
         printf("cube of %" PRIu16 " and %" PRIu32 ": refusal %d, %s\n", root, rest, r.refusal, reason(r.refusal));

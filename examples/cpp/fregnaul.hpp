@@ -12,7 +12,7 @@ namespace fregnaul {
 template <class Answer> class result {
 public:
     result(Answer answer) : answer_(answer) {}
-    explicit operator bool() const { return why() == FREGNAUL_ANSWERED; }
+    explicit operator bool() const { return why() == FREGNAUL_NO_REFUSAL; }
     fregnaul_refusal why() const { return static_cast<fregnaul_refusal>(answer_.refusal); }
     const Answer *operator->() const {
         assert(*this);
@@ -43,7 +43,7 @@ result<fregnaul_batch_answer> sqrt_batch(const Values &values, Roots &roots, std
 
 inline const char *reason(fregnaul_refusal refusal) {
     switch (refusal) {
-    case FREGNAUL_ANSWERED: return "answered";
+    case FREGNAUL_NO_REFUSAL: return "answered";
     case FREGNAUL_NOT_NORMALIZED: return "not normalised";
     case FREGNAUL_FIRST_BEYOND: return "first beyond the values";
     case FREGNAUL_COUNT_BEYOND: return "count beyond the values";

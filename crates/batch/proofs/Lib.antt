@@ -1,5 +1,5 @@
-pub mod Paid
+pub mod Costs
+pub mod Largest
 pub mod Going
 pub mod Answers
-pub mod Costs
 pub mod Bounds

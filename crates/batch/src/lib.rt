@@ -13,6 +13,7 @@ pub struct BatchAnswer {
     pub spent: u64,
 }
 
+// A refusal: its number, with nothing done and nothing spent.
 fn refused(number: u8) -> BatchAnswer
     ensures { λ r. ⌜ (r .refusal ≡ number) × (r .done ≡ 0) × (r .spent ≡ 0) ⌝ }
 {
@@ -33,6 +34,7 @@ pub fn sqrt_batch(
 ) -> BatchAnswer
     ensures { λ r. ⌜ Batched (now (values .entry)) (now (roots .entry)) first count budget (r .refusal) (r .done) (r .spent) (now (roots .exit)) ⌝ }
 {
+    // The first of the refusals 2, 3 and 4 that applies is given.
     if first > values.len() {
         return refused(2);
     }
@@ -42,6 +44,7 @@ pub fn sqrt_batch(
     if values.len() != roots.len() {
         return refused(4);
     }
+    // The run is lent the two parts alone, so no other place can change.
     let end = first + count;
     let ran = run_part(&values[first..end], &mut roots[first..end], budget);
     BatchAnswer {

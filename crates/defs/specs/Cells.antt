@@ -17,8 +17,8 @@ bound cube u16 = 2 ^ 13
 bound cube u32 = 2 ^ 29
 bound cube u64 = 2 ^ 61
 
--- n is a normalised value of the kind and width
-pub record IsNormal (k : Kind) (w : Width) (n : ℕ) : Type 0 where
+-- n is a normalised value of the kind and width: it has its top bits
+pub record HasTopBits (k : Kind) (w : Width) (n : ℕ) : Type 0 where
   pub from-bound : bound k w ≤ n
   pub in-width : n < 2 ^ bitsOf w
 

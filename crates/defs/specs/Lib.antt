@@ -5,6 +5,7 @@ pub mod Tables
 pub mod Starts
 pub mod Cells
 pub mod Answers
+pub mod Parts
 pub mod Refusals
 pub mod Marked
 pub mod Rebuild

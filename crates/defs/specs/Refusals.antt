@@ -2,8 +2,8 @@
 use Prim.Native.Nat.{ℕ}
 
 -- not refused
-abbrev pub answered : ℕ
-answered = 0
+abbrev pub noRefusal : ℕ
+noRefusal = 0
 
 -- a normalised call, and n is below the bound
 abbrev pub notNormalised : ℕ

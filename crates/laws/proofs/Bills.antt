@@ -3,22 +3,32 @@ use mathlib.Core.Path.{_≡_, refl, sym, _∙_}
 use mathlib.Core.Bool.{Bool, true, false}
 use mathlib.Core.Logic.{_⊎_, inl, inr}
 use Prim.Native.Nat.{ℕ, _≤_, _<_}
-use native.Mathlib.Nat.{mul-one}
 use native.Mathlib.Omega.{arith}
 use lib.Dec.{eqb}
 use borrow.Author.Tests.{le-leb, eq-eqb, ne-eqb, eqb-true, eqb-false}
 use Rattle.defs.specs.Kinds.{Kind, pow, Width, u8}
 use Rattle.defs.specs.Roots.{RootRem, rootOf}
 use Rattle.defs.specs.Starts.{S, start8}
-use Rattle.defs.specs.Cells.{bound, startOf, stepsOf, shiftOf, raised, fullStart, fullSteps}
-use Rattle.defs.specs.Answers.{Full, Fixed, Normalised}
+use Rattle.defs.specs.Cells.{bound, startOf, stepsOf, raised, fullStart, fullSteps}
+use Rattle.defs.specs.Answers.{Full, Normalised}
+use Rattle.defs.specs.Parts.{Starts, Fixed}
 use Rattle.laws.proofs.Powers.{le-or-lt}
+use Rattle.laws.proofs.Shift.{raised-8}
 use Rattle.laws.proofs.Roots.{one-root, one-answer, root-is, root-of-zero}
 
 -- where the power of S is at most n the start is S
 pub not-lowered : (k : Kind) (w : Width) (n : ℕ) → pow k (S k w n) ≤ n → startOf k w n ≡ S k w n
 unfolding startOf
 not-lowered k w n h = rw (le-leb (pow k (S k w n)) n h)
+
+-- a fix-up from S starts and pays as defined
+pub billed : (k : Kind) (w : Width) {n start root rest steps : ℕ} → Starts k w n start → Fixed k n start root rest steps →
+    (start ≡ startOf k w n) × (steps ≡ stepsOf k w n)
+unfolding stepsOf
+billed k w {n} {start} {root} s f =
+    let is-start : start ≡ startOf k w n = s .is-S ∙ sym (not-lowered k w n (rw (s .is-S) at (s .fits))) in
+    let is-root : root ≡ rootOf k n = one-root k (f .root-rem .is-root) (root-is k n) in
+    (is-start, omega (arith, is-start, is-root, f .counted))
 
 -- no second answer fits a full call
 pub one-full : {k : Kind} {w : Width} {n a b c d a′ b′ c′ d′ : ℕ} → Full k w n a b c d → Full k w n a′ b′ c′ d′ →
@@ -37,7 +47,7 @@ one-normalised {k} {w} {n} {a} {b} {c} {d} {e} {a′} {b′} {c′} {d′} {e′
         let p = x .from-bound h in
         let q = y .from-bound h in
         let same = one-answer k (p .root-rem) (q .root-rem) in
-        (p .no-refusal ∙ sym (q .no-refusal), same .0, same .1, p .is-start ∙ sym (q .is-start), p .is-steps ∙ sym (q .is-steps))
+        (p .not-refused ∙ sym (q .not-refused), same .0, same .1, p .is-start ∙ sym (q .is-start), p .is-steps ∙ sym (q .is-steps))
     by-bound (inr h) =
         let p = x .below-bound h in
         let q = y .below-bound h in
@@ -63,10 +73,6 @@ full-raised k w {n} p answer started stepped = record {
 }
 
 -- the u8 bill: a search from 0 answers with its root for a start, and no steps
-raised-8 : (k : Kind) (n : ℕ) → raised k u8 n ≡ n
-unfolding raised shiftOf
-raised-8 k n = mul-one n
-
 started-8 : (k : Kind) (n : ℕ) → startOf k u8 n ≡ rootOf k n
 unfolding start8
 started-8 k n = not-lowered k u8 n (root-is k n .fits)

@@ -7,7 +7,7 @@ use native.Mathlib.Nat.{mul-le-mul, mul-le-mul-left, le-trans, lt-of-le-of-lt, l
 use native.Mathlib.Omega.{arith}
 use lib.Dec.{lit≤}
 use Rattle.defs.specs.Kinds.{Kind, square, cube, pow, Width, u8, u16, u32, u64, bitsOf, rootBits}
-use Rattle.defs.specs.Answers.{Fixed}
+use Rattle.defs.specs.Parts.{Fixed}
 use Rattle.laws.proofs.Powers.{le-or-lt, gap, next-power, below}
 use Rattle.laws.proofs.Roots.{is-root}
 
@@ -40,11 +40,11 @@ goes-on {k} {w} {n} {start} {s} {left} {next} at h = record {
   is-gap = rw (at .is-gap) (gap-widens k s);
 }
 
-pub ends : {k : Kind} {w : Width} {n start s left next : ℕ} → Walk k w n start s left next → left < next →
-    Fixed k n start s left (s - start)
-ends {k} {w} {n} {start} {s} {left} {next} at h = record {
+pub ends : {k : Kind} {w : Width} {n start s left next steps : ℕ} → Walk k w n start s left next → left < next → start + steps ≡ s →
+    Fixed k n start s left steps
+ends {k} {w} {n} {start} {s} {left} {next} at h counted = record {
   root-rem = record { is-root = is-root k (omega arith) (omega (arith, next-power k s)); is-rest = omega arith };
-  counted = omega arith;
+  counted = counted;
 }
 
 -- from 4 on a gap is at most its power, and below it is small: it fits wherever the power's value does

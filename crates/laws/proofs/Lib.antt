@@ -1,8 +1,8 @@
 pub mod Powers
 pub mod Roots
 pub mod FixUp
-pub mod Bills
 pub mod Shift
+pub mod Bills
 pub mod Full
 pub mod Rebuild
 pub mod Products

@@ -1,15 +1,17 @@
 -- Bringing a value to its top bits, and its root back: left by a multiple of the degree, right by that many bits. Assumes nothing.
 use mathlib.Core.Path.{_≡_, refl, sym, ap, _∙_}
-use Prim.Native.Nat.{ℕ, suc, _+_, _*_, _-_, _/_, _%_, _^_, _≤_, _<_}
-use native.Mathlib.Nat.{le-trans, lt-of-lt-of-le, le-of-eq, mul-le-mul-right, le-of-mul-le-mul-right, lt-of-mul-lt-mul-right, div-mul-le-self, lt-div-mul-add, mod-lt, mod-eq-of-lt, div-add-mod, mul-div-right}
+use mathlib.Core.Logic.{_⊎_, inl, inr}
+use Prim.Native.Nat.{ℕ, suc, _+_, _*_, _-_, _/_, _%_, _^_, _≤_, _<_, zero-le}
+use native.Mathlib.Nat.{mul-one, lt-irrefl, lt-of-le-of-lt, le-trans, lt-of-lt-of-le, le-of-eq, mul-le-mul-right, le-of-mul-le-mul-right, lt-of-mul-lt-mul-right, div-mul-le-self, lt-div-mul-add, mod-lt, mod-eq-of-lt, div-add-mod, mul-div-right}
 use native.Mathlib.Omega.{arith}
 use lib.Dec.{lit≤, lit<}
 use lib.Count.{leadingZeros, leading-top}
 use lib.Pow.{pow-pos, pow-add, pow-mono, shl-lt}
 use Rattle.defs.specs.Kinds.{Kind, square, cube, Width, u8, u16, u32, u64, pow, degree, bitsOf, rootBits}
 use Rattle.defs.specs.Roots.{IsRoot}
-use Rattle.defs.specs.Cells.{IsNormal, bound, lowered, shiftOf, raised}
-use Rattle.laws.proofs.Powers.{rises, pow-product, pow-positive}
+use Rattle.defs.specs.Cells.{HasTopBits, bound, lowered, shiftOf, raised}
+use Rattle.defs.specs.Parts.{Shifts}
+use Rattle.laws.proofs.Powers.{le-or-lt, rises, pow-product, pow-positive}
 use Rattle.laws.proofs.Roots.{is-root, root-above}
 
 -- the power of a power of two
@@ -95,24 +97,67 @@ half-of-bits cube u32 s v h = omega arith
 half-of-bits cube u64 s v h = omega arith
 
 -- what a full call knows once it has the shift of a value that is not 0
-pub record Shifted (k : Kind) (w : Width) (n : ℕ) : Type 0 where
-  pub shift-fits : shiftOf k w n < bitsOf w
-  pub back-fits : shiftOf k w n / degree k < rootBits w
-  pub raises : (n * 2 ^ shiftOf k w n) % 2 ^ bitsOf w ≡ raised k w n
-  pub is-normal : IsNormal k w (raised k w n)
-
-pub shifted : (k : Kind) (w : Width) → Wide w → {n : ℕ} → 0 < n → n < 2 ^ bitsOf w → Shifted k w n
-unfolding raised
-shifted k w v {n} p h =
+pub shifts : (k : Kind) (w : Width) → Wide w → {n shift back : ℕ} → 0 < n → n < 2 ^ bitsOf w → shift ≡ shiftOf k w n →
+    back ≡ shift / degree k → Shifts k w n shift back
+shifts k w v {n} {shift} p h e b =
     let l = lifted k w v n p h in
     record {
-      shift-fits = l .short;
-      back-fits = half-of-bits k w (shiftOf k w n) v (l .short);
-      raises = mod-eq-of-lt (l .kept);
-      is-normal = record { from-bound = rw (← (bound-is k w v)) (l .topped); in-width = l .kept };
+      is-shift = e;
+      is-back = b;
+      in-width = rw e (l .short);
+      back-in-width = rw (b, e) (half-of-bits k w (shiftOf k w n) v (l .short));
+      to-bound = rw (e, mod-eq-of-lt (l .kept), ← (bound-is k w v)) (l .topped);
     }
+
+-- the machine's shift is the value brought to its top bits: nothing is cut off
+pub raises : (k : Kind) (w : Width) → Wide w → {n shift back : ℕ} → 0 < n → n < 2 ^ bitsOf w → Shifts k w n shift back →
+    (n * 2 ^ shift) % 2 ^ bitsOf w ≡ raised k w n
+unfolding raised
+raises k w v {n} p h s = rw (s .is-shift) (mod-eq-of-lt (lifted k w v n p h .kept))
+
+lifted-top : (k : Kind) (w : Width) → Wide w → {n : ℕ} → 0 < n → n < 2 ^ bitsOf w → HasTopBits k w (raised k w n)
+unfolding raised
+lifted-top k w v {n} p h =
+    let l = lifted k w v n p h in
+    record { from-bound = rw (← (bound-is k w v)) (l .topped); in-width = l .kept }
+
+-- a u8 is not shifted
+pub raised-8 : (k : Kind) (n : ℕ) → raised k u8 n ≡ n
+unfolding raised shiftOf
+raised-8 k n = mul-one n
+
+-- at every width the value brought to its top bits is normalised
+pub raised-top : (k : Kind) (w : Width) {n : ℕ} → 0 < n → n < 2 ^ bitsOf w → HasTopBits k w (raised k w n)
+raised-top k u8 {n} p h = rw (raised-8 k n) (record { from-bound = zero-le; in-width = h })
+raised-top k u16 p h = lifted-top k u16 tt p h
+raised-top k u32 p h = lifted-top k u32 tt p h
+raised-top k u64 p h = lifted-top k u64 tt p h
 
 -- the root of the value brought to its top bits, shifted back, is the value's root
 pub root-shifted-back : (k : Kind) (w : Width) {n a : ℕ} → IsRoot k (raised k w n) a → IsRoot k n (a / 2 ^ (shiftOf k w n / degree k))
 unfolding raised
 root-shifted-back k w {n} {a} r = root-back k n (shiftOf k w n / degree k) a (rw (shift-multiple k w n) r)
+
+-- a value that has its top bits is not 0
+pub top-positive : (k : Kind) (w : Width) → Wide w → {n : ℕ} → bound k w ≤ n → 0 < n
+top-positive k w v h = lt-of-lt-of-le (pow-pos (bitsOf w - degree k)) (rw (bound-is k w v) h)
+
+-- and is where its shift would bring it: one more step to the left would not fit the width
+no-step : (k : Kind) (s : ℕ) → s < degree k → degree k * (s / degree k) ≡ s → s ≡ 0
+no-step square s h e = omega arith
+no-step cube s h e = omega arith
+
+unshifted : (k : Kind) (w : Width) → Wide w → {n : ℕ} → HasTopBits k w n → shiftOf k w n ≡ 0
+unshifted k w v {n} h = by-size (le-or-lt (degree k) (shiftOf k w n))
+  where
+    by-size : (degree k ≤ shiftOf k w n) ⊎ (shiftOf k w n < degree k) → shiftOf k w n ≡ 0
+    by-size (inl far) =
+        let s : ℕ = shiftOf k w n in
+        let low : 2 ^ (bitsOf w - degree k) * 2 ^ s ≤ n * 2 ^ s = mul-le-mul-right (2 ^ s) (rw (bound-is k w v) (h .from-bound)) in
+        let all : 2 ^ bitsOf w ≤ 2 ^ (bitsOf w - degree k) * 2 ^ s = le-trans (pow-mono (omega (arith, far))) (le-of-eq (pow-add 2 (bitsOf w - degree k) s)) in
+        absurd (lt-irrefl (2 ^ bitsOf w) (lt-of-le-of-lt (le-trans all low) (lifted k w v n (top-positive k w v (h .from-bound)) (h .in-width) .kept)))
+    by-size (inr near) = no-step k (shiftOf k w n) near (shift-multiple k w n)
+
+pub unraised : (k : Kind) (w : Width) → Wide w → {n : ℕ} → HasTopBits k w n → raised k w n ≡ n
+unfolding raised
+unraised k w v {n} h = rw (unshifted k w v h) (mul-one n)

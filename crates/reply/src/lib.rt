@@ -3,7 +3,7 @@ mod lines;
 
 ghost use Rattle.text.specs.Writing.{Wrote};
 ghost use Rattle.reply.specs.Putting.{Puts};
-ghost use Rattle.reply.specs.Reply.{answerTo, replyOf};
+ghost use Rattle.reply.specs.Reply.{answerTo, replyOf, Replied};
 use crate::lines::put_answer;
 use text::Request;
 use text::Written;
@@ -27,4 +27,16 @@ pub fn reply(input: &[u8], out: &mut [u8]) -> Written
     let put = put_reply(&mut lines, request);
     let end = put.next;
     write_bytes(out, 0, &lines[..end])
+}
+
+// The reply to an input of which `read` bytes were read into a window; a `read` above its length counts as its length.
+// The window is longer than any good input, so what was not read does not matter.
+pub fn reply_to_window(window: &[u8; 32], read: usize, out: &mut [u8]) -> Written
+    ensures { λ r. ⌜ Replied (now (window .entry)) read (now (out .entry)) (now (out .exit)) r ⌝ }
+{
+    let bytes: &[u8] = window;
+    if read < bytes.len() {
+        return reply(&bytes[..read], out);
+    }
+    reply(bytes, out)
 }

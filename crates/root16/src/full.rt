@@ -1,10 +1,15 @@
-// Full calls at 16 bits: the value is brought to its top bits, and the normalised root shifted back.
+// Full calls at 16 bits: a value with its top bits is answered from its own start, any other is brought there and its root shifted back.
 ghost use Prim.Native.Nat.{_<_};
 ghost use Rattle.defs.specs.Kinds.{square, cube, u16};
-ghost use Rattle.defs.specs.Roots.{IsRoot};
-ghost use Rattle.defs.specs.Answers.{Brought, Full};
-use crate::normalized::answered_cbrt16;
-use crate::normalized::answered_sqrt16;
+ghost use Rattle.defs.specs.Answers.{Full};
+use crate::fix::fix_cbrt_error16;
+use crate::fix::fix_sqrt_error16;
+use crate::power::cube16;
+use crate::power::square16;
+use crate::shift::shift_sqrt16;
+use crate::shift::third_cbrt16;
+use crate::start::start_cbrt16;
+use crate::start::start_sqrt16;
 
 // What a full call answers: root and rest, and where its fix-up started and how many steps it took.
 #[repr(C)]
@@ -22,117 +27,78 @@ const ZERO: RootRem16 = RootRem16 {
     steps: 0,
 };
 
-// The normalised answer with its root shifted back. Where something was shifted, its rest is another value's.
-struct Brought16 {
-    shift: u32,
-    root: u8,
-    rest: u16,
-    start: u8,
-    steps: u8,
-}
-
-// The shift is the count of leading zeros, lowered to an even number.
-fn brought_sqrt16(n: u16) -> Brought16
-    requires { ⌜ 0 < n ⌝ }
-    ensures { λ r. ⌜ Brought square u16 n (r .shift) (r .root) (r .rest) (r .start) (r .steps) ⌝ }
-{
-    let zeros = u16::leading_zeros(n);
-    let shift = zeros - zeros % 2;
-    let s = answered_sqrt16(n << shift);
-    let root = s.root >> (shift / 2);
-    Brought16 {
-        shift: shift,
-        root: root,
-        rest: s.rest,
-        start: s.start,
-        steps: s.steps,
-    }
-}
-
+// The top bits are tested first, and the other values have a function with one caller, so that the compiler inlines it.
 pub fn sqrt_rem(n: u16) -> RootRem16
     ensures { λ r. ⌜ Full square u16 n (r .root) (r .rest) (r .start) (r .steps) ⌝ }
 {
+    if n >= 0x4000 {
+        let start = start_sqrt16(n);
+        let fixed = fix_sqrt_error16(n, start);
+        return RootRem16 {
+            root: fixed.root,
+            rest: fixed.rest,
+            start: start,
+            steps: fixed.steps,
+        };
+    }
     if n == 0 {
         return ZERO;
     }
-    let s = brought_sqrt16(n);
-    if s.shift == 0 {
-        return RootRem16 {
-            root: s.root,
-            rest: s.rest,
-            start: s.start,
-            steps: s.steps,
-        };
-    }
-    let wide = s.root as u16;
-    RootRem16 {
-        root: s.root,
-        rest: n - wide * wide,
-        start: s.start,
-        steps: s.steps,
-    }
+    shifted_sqrt_rem16(n)
 }
 
-pub fn sqrt(n: u16) -> u8
-    ensures { λ r. ⌜ IsRoot square n r ⌝ }
-{
-    if n == 0 {
-        return 0;
-    }
-    let zeros = u16::leading_zeros(n);
-    let shift = zeros - zeros % 2;
-    answered_sqrt16(n << shift).root >> (shift / 2)
-}
-
-// The shift is the count of leading zeros, lowered to a multiple of 3.
-fn brought_cbrt16(n: u16) -> Brought16
+// The normalised root is shifted back, and the rest worked out anew: shifted back, it would be another number.
+fn shifted_sqrt_rem16(n: u16) -> RootRem16
     requires { ⌜ 0 < n ⌝ }
-    ensures { λ r. ⌜ Brought cube u16 n (r .shift) (r .root) (r .rest) (r .start) (r .steps) ⌝ }
+    ensures { λ r. ⌜ Full square u16 n (r .root) (r .rest) (r .start) (r .steps) ⌝ }
 {
-    let zeros = u16::leading_zeros(n);
-    let shift = zeros - zeros % 3;
-    let c = answered_cbrt16(n << shift);
-    let root = c.root >> (shift / 3);
-    Brought16 {
-        shift: shift,
+    let shift = shift_sqrt16(n);
+    let top = n << shift;
+    let start = start_sqrt16(top);
+    let fixed = fix_sqrt_error16(top, start);
+    let normalised = fixed.root;
+    let root = normalised >> (shift / 2);
+    RootRem16 {
         root: root,
-        rest: c.rest,
-        start: c.start,
-        steps: c.steps,
+        rest: n - square16(root),
+        start: start,
+        steps: fixed.steps,
     }
 }
 
 pub fn cbrt_rem(n: u16) -> RootRem16
     ensures { λ r. ⌜ Full cube u16 n (r .root) (r .rest) (r .start) (r .steps) ⌝ }
 {
+    if n >= 0x2000 {
+        let start = start_cbrt16(n);
+        let fixed = fix_cbrt_error16(n, start);
+        return RootRem16 {
+            root: fixed.root,
+            rest: fixed.rest,
+            start: start,
+            steps: fixed.steps,
+        };
+    }
     if n == 0 {
         return ZERO;
     }
-    let c = brought_cbrt16(n);
-    if c.shift == 0 {
-        return RootRem16 {
-            root: c.root,
-            rest: c.rest,
-            start: c.start,
-            steps: c.steps,
-        };
-    }
-    let wide = c.root as u16;
-    RootRem16 {
-        root: c.root,
-        rest: n - wide * wide * wide,
-        start: c.start,
-        steps: c.steps,
-    }
+    shifted_cbrt_rem16(n)
 }
 
-pub fn cbrt(n: u16) -> u8
-    ensures { λ r. ⌜ IsRoot cube n r ⌝ }
+fn shifted_cbrt_rem16(n: u16) -> RootRem16
+    requires { ⌜ 0 < n ⌝ }
+    ensures { λ r. ⌜ Full cube u16 n (r .root) (r .rest) (r .start) (r .steps) ⌝ }
 {
-    if n == 0 {
-        return 0;
+    let third = third_cbrt16(n);
+    let top = n << (3 * third);
+    let start = start_cbrt16(top);
+    let fixed = fix_cbrt_error16(top, start);
+    let normalised = fixed.root;
+    let root = normalised >> third;
+    RootRem16 {
+        root: root,
+        rest: n - cube16(root),
+        start: start,
+        steps: fixed.steps,
     }
-    let zeros = u16::leading_zeros(n);
-    let shift = zeros - zeros % 3;
-    answered_cbrt16(n << shift).root >> (shift / 3)
 }

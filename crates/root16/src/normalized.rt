@@ -1,7 +1,5 @@
 // Normalised calls at 16 bits: a value without its top bits is refused, any other is answered from its start.
-ghost use Prim.Native.Nat.{_≤_};
 ghost use Rattle.defs.specs.Kinds.{square, cube, u16};
-ghost use Rattle.defs.specs.Cells.{bound};
 ghost use Rattle.defs.specs.Answers.{Normalised};
 use crate::fix::fix_cbrt_error16;
 use crate::fix::fix_sqrt_error16;
@@ -26,38 +24,14 @@ const REFUSED: NormalizedRootRem16 = NormalizedRootRem16 {
     steps: 0,
 };
 
-// A value that is known to be normalised, answered from its start.
-pub(crate) fn answered_sqrt16(n: u16) -> NormalizedRootRem16
-    requires { ⌜ bound square u16 ≤ n ⌝ }
-    ensures { λ r. ⌜ Normalised square u16 n (r .refusal) (r .root) (r .rest) (r .start) (r .steps) ⌝ }
-{
-    let start = start_sqrt16(n);
-    let fixed = fix_sqrt_error16(n, start);
-    NormalizedRootRem16 {
-        refusal: 0,
-        root: fixed.root,
-        rest: fixed.rest,
-        start: start,
-        steps: fixed.steps,
-    }
-}
-
 pub fn normalized_sqrt_rem(n: u16) -> NormalizedRootRem16
     ensures { λ r. ⌜ Normalised square u16 n (r .refusal) (r .root) (r .rest) (r .start) (r .steps) ⌝ }
 {
-    if n < 16384 {
+    if n < 0x4000 {
         return REFUSED;
     }
-    answered_sqrt16(n)
-}
-
-// A value that is known to be normalised, answered from its start.
-pub(crate) fn answered_cbrt16(n: u16) -> NormalizedRootRem16
-    requires { ⌜ bound cube u16 ≤ n ⌝ }
-    ensures { λ r. ⌜ Normalised cube u16 n (r .refusal) (r .root) (r .rest) (r .start) (r .steps) ⌝ }
-{
-    let start = start_cbrt16(n);
-    let fixed = fix_cbrt_error16(n, start);
+    let start = start_sqrt16(n);
+    let fixed = fix_sqrt_error16(n, start);
     NormalizedRootRem16 {
         refusal: 0,
         root: fixed.root,
@@ -70,8 +44,16 @@ pub(crate) fn answered_cbrt16(n: u16) -> NormalizedRootRem16
 pub fn normalized_cbrt_rem(n: u16) -> NormalizedRootRem16
     ensures { λ r. ⌜ Normalised cube u16 n (r .refusal) (r .root) (r .rest) (r .start) (r .steps) ⌝ }
 {
-    if n < 8192 {
+    if n < 0x2000 {
         return REFUSED;
     }
-    answered_cbrt16(n)
+    let start = start_cbrt16(n);
+    let fixed = fix_cbrt_error16(n, start);
+    NormalizedRootRem16 {
+        refusal: 0,
+        root: fixed.root,
+        rest: fixed.rest,
+        start: start,
+        steps: fixed.steps,
+    }
 }

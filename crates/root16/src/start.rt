@@ -2,14 +2,14 @@
 ghost use mathlib.Core.Path.{_≡_};
 ghost use Prim.Native.Nat.{_*_, _/_, _^_, _≤_, _<_};
 ghost use Rattle.defs.specs.Kinds.{square, cube, u16};
-ghost use Rattle.defs.specs.Starts.{S};
+ghost use Rattle.defs.specs.Parts.{Starts};
 ghost use Rattle.defs.specs.Starts.Cube16.{q, d};
 use tables::rcbrt_guess;
 use tables::rsqrt_guess;
 
 pub(crate) fn start_sqrt16(n: u16) -> u8
     requires { ⌜ 2 ^ 14 ≤ n ⌝ }
-    ensures { λ s. ⌜ s ≡ S square u16 n ⌝ }
+    ensures { λ s. ⌜ Starts square u16 n s ⌝ }
 {
     let r = rsqrt_guess((n >> 9) as usize - 32);
     let s = (r * n as u32) >> 16;
@@ -38,7 +38,7 @@ fn scaled_square16(n: u16, r: u32) -> u32
 
 pub(crate) fn start_cbrt16(n: u16) -> u8
     requires { ⌜ 2 ^ 13 ≤ n ⌝ }
-    ensures { λ s. ⌜ s ≡ S cube u16 n ⌝ }
+    ensures { λ s. ⌜ Starts cube u16 n s ⌝ }
 {
     let r = rcbrt_guess(place_cbrt16(n) as usize - 8);
     let c = (scaled_square16(n, r) * n as u32) >> 24;

@@ -1,7 +1,5 @@
 // Normalised calls at 32 bits: a value without its top bits is refused, any other is answered from its start.
-ghost use Prim.Native.Nat.{_≤_};
 ghost use Rattle.defs.specs.Kinds.{square, cube, u32};
-ghost use Rattle.defs.specs.Cells.{bound};
 ghost use Rattle.defs.specs.Answers.{Normalised};
 use crate::fix::fix_cbrt_error32;
 use crate::fix::fix_sqrt_error32;
@@ -26,38 +24,14 @@ const REFUSED: NormalizedRootRem32 = NormalizedRootRem32 {
     steps: 0,
 };
 
-// A value that is known to be normalised, answered from its start.
-pub(crate) fn answered_sqrt32(n: u32) -> NormalizedRootRem32
-    requires { ⌜ bound square u32 ≤ n ⌝ }
-    ensures { λ r. ⌜ Normalised square u32 n (r .refusal) (r .root) (r .rest) (r .start) (r .steps) ⌝ }
-{
-    let start = start_sqrt32(n);
-    let fixed = fix_sqrt_error32(n, start);
-    NormalizedRootRem32 {
-        refusal: 0,
-        root: fixed.root,
-        rest: fixed.rest,
-        start: start,
-        steps: fixed.steps,
-    }
-}
-
 pub fn normalized_sqrt_rem(n: u32) -> NormalizedRootRem32
     ensures { λ r. ⌜ Normalised square u32 n (r .refusal) (r .root) (r .rest) (r .start) (r .steps) ⌝ }
 {
     if n < 0x4000_0000 {
         return REFUSED;
     }
-    answered_sqrt32(n)
-}
-
-// A value that is known to be normalised, answered from its start.
-pub(crate) fn answered_cbrt32(n: u32) -> NormalizedRootRem32
-    requires { ⌜ bound cube u32 ≤ n ⌝ }
-    ensures { λ r. ⌜ Normalised cube u32 n (r .refusal) (r .root) (r .rest) (r .start) (r .steps) ⌝ }
-{
-    let start = start_cbrt32(n);
-    let fixed = fix_cbrt_error32(n, start);
+    let start = start_sqrt32(n);
+    let fixed = fix_sqrt_error32(n, start);
     NormalizedRootRem32 {
         refusal: 0,
         root: fixed.root,
@@ -73,5 +47,13 @@ pub fn normalized_cbrt_rem(n: u32) -> NormalizedRootRem32
     if n < 0x2000_0000 {
         return REFUSED;
     }
-    answered_cbrt32(n)
+    let start = start_cbrt32(n);
+    let fixed = fix_cbrt_error32(n, start);
+    NormalizedRootRem32 {
+        refusal: 0,
+        root: fixed.root,
+        rest: fixed.rest,
+        start: start,
+        steps: fixed.steps,
+    }
 }

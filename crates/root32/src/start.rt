@@ -3,9 +3,10 @@
 ghost use mathlib.Core.Path.{_≡_};
 ghost use Prim.Native.Nat.{_*_, _/_, _^_, _≤_, _<_};
 ghost use Rattle.defs.specs.Kinds.{square, cube, u32};
-ghost use Rattle.defs.specs.Starts.{S};
+ghost use Rattle.defs.specs.Parts.{Starts};
 ghost use Rattle.defs.specs.Starts.Square32 as sq32;
 ghost use Rattle.defs.specs.Starts.Cube32 as cb32;
+use crate::power::square32;
 use tables::rcbrt_guess;
 use tables::rsqrt_guess;
 use wide::saturating_double16;
@@ -33,11 +34,11 @@ fn near_sqrt32(n: u32, r: u16) -> u16
 
 pub(crate) fn start_sqrt32(n: u32) -> u16
     requires { ⌜ 2 ^ 30 ≤ n ⌝ }
-    ensures { λ s. ⌜ s ≡ S square u32 n ⌝ }
+    ensures { λ s. ⌜ Starts square u32 n s ⌝ }
 {
     let r = rsqrt32(n);
     let a = near_sqrt32(n, r);
-    let e = n - (a as u32) * (a as u32);
+    let e = n - square32(a);
     a + wmul16_hi((e >> 16) as u16, r)
 }
 
@@ -64,7 +65,7 @@ fn rcbrt32(n: u32) -> u16
     (p * t as u32 / 3 / 16) as u16
 }
 
-// r: the three bits are given back, and ten taken off so that the start is never above the root.
+// r: y, halved for an eighth of the value, and ten less so that the start is never above the root.
 fn lowered_cbrt32(n: u32, y: u16) -> u16
     requires { ⌜ (2 ^ 29 ≤ n) × (y ≡ cb32.y n) ⌝ }
     ensures { λ r. ⌜ r ≡ cb32.r n ⌝ }
@@ -74,7 +75,7 @@ fn lowered_cbrt32(n: u32, y: u16) -> u16
 
 pub(crate) fn start_cbrt32(n: u32) -> u16
     requires { ⌜ 2 ^ 29 ≤ n ⌝ }
-    ensures { λ s. ⌜ s ≡ S cube u32 n ⌝ }
+    ensures { λ s. ⌜ Starts cube u32 n s ⌝ }
 {
     let r = lowered_cbrt32(n, rcbrt32(n));
     wmul16_hi(r, wmul16_hi(r, (n >> 16) as u16)) / 4

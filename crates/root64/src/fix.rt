@@ -2,7 +2,9 @@
 // and the gap to the next power carried along.
 ghost use Prim.Native.Nat.{_≤_};
 ghost use Rattle.defs.specs.Kinds.{square, cube, pow};
-ghost use Rattle.defs.specs.Answers.{Fixed};
+ghost use Rattle.defs.specs.Parts.{Fixed};
+use crate::power::cube64;
+use crate::power::square64;
 
 pub(crate) struct Fixed64 {
     pub(crate) root: u32,
@@ -15,9 +17,8 @@ pub(crate) fn fix_sqrt_error64(n: u64, start: u32) -> Fixed64
     ensures { λ r. ⌜ Fixed square n start (r .root) (r .rest) (r .steps) ⌝ }
 {
     let mut s = start;
-    let wide = start as u64;
-    let mut e = n - wide * wide;
-    let mut gap = 2 * wide + 1;
+    let mut e = n - square64(start);
+    let mut gap = 2 * (start as u64) + 1;
     while e >= gap {
         s += 1;
         e -= gap;
@@ -35,10 +36,8 @@ pub(crate) fn fix_cbrt_error64(n: u64, start: u32) -> Fixed64
     ensures { λ r. ⌜ Fixed cube n start (r .root) (r .rest) (r .steps) ⌝ }
 {
     let mut c = start;
-    let wide = start as u64;
-    let cc = wide * wide;
-    let mut e = n - cc * wide;
-    let mut gap = 3 * (cc + wide) + 1;
+    let mut e = n - cube64(start);
+    let mut gap = 3 * (square64(start) + start as u64) + 1;
     while e >= gap {
         c += 1;
         e -= gap;

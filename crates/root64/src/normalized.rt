@@ -1,7 +1,5 @@
 // Normalised calls at 64 bits: a value without its top bits is refused, any other is answered from its start.
-ghost use Prim.Native.Nat.{_≤_};
 ghost use Rattle.defs.specs.Kinds.{square, cube, u64};
-ghost use Rattle.defs.specs.Cells.{bound};
 ghost use Rattle.defs.specs.Answers.{Normalised};
 use crate::fix::fix_cbrt_error64;
 use crate::fix::fix_sqrt_error64;
@@ -26,38 +24,14 @@ const REFUSED: NormalizedRootRem64 = NormalizedRootRem64 {
     steps: 0,
 };
 
-// A value that is known to be normalised, answered from its start.
-pub(crate) fn answered_sqrt64(n: u64) -> NormalizedRootRem64
-    requires { ⌜ bound square u64 ≤ n ⌝ }
-    ensures { λ r. ⌜ Normalised square u64 n (r .refusal) (r .root) (r .rest) (r .start) (r .steps) ⌝ }
-{
-    let start = start_sqrt64(n);
-    let fixed = fix_sqrt_error64(n, start);
-    NormalizedRootRem64 {
-        refusal: 0,
-        root: fixed.root,
-        rest: fixed.rest,
-        start: start,
-        steps: fixed.steps,
-    }
-}
-
 pub fn normalized_sqrt_rem(n: u64) -> NormalizedRootRem64
     ensures { λ r. ⌜ Normalised square u64 n (r .refusal) (r .root) (r .rest) (r .start) (r .steps) ⌝ }
 {
     if n < 0x4000_0000_0000_0000 {
         return REFUSED;
     }
-    answered_sqrt64(n)
-}
-
-// A value that is known to be normalised, answered from its start.
-pub(crate) fn answered_cbrt64(n: u64) -> NormalizedRootRem64
-    requires { ⌜ bound cube u64 ≤ n ⌝ }
-    ensures { λ r. ⌜ Normalised cube u64 n (r .refusal) (r .root) (r .rest) (r .start) (r .steps) ⌝ }
-{
-    let start = start_cbrt64(n);
-    let fixed = fix_cbrt_error64(n, start);
+    let start = start_sqrt64(n);
+    let fixed = fix_sqrt_error64(n, start);
     NormalizedRootRem64 {
         refusal: 0,
         root: fixed.root,
@@ -73,5 +47,13 @@ pub fn normalized_cbrt_rem(n: u64) -> NormalizedRootRem64
     if n < 0x2000_0000_0000_0000 {
         return REFUSED;
     }
-    answered_cbrt64(n)
+    let start = start_cbrt64(n);
+    let fixed = fix_cbrt_error64(n, start);
+    NormalizedRootRem64 {
+        refusal: 0,
+        root: fixed.root,
+        rest: fixed.rest,
+        start: start,
+        steps: fixed.steps,
+    }
 }

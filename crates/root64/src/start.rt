@@ -3,9 +3,10 @@
 ghost use mathlib.Core.Path.{_≡_};
 ghost use Prim.Native.Nat.{_*_, _/_, _^_, _≤_, _<_};
 ghost use Rattle.defs.specs.Kinds.{square, cube, u64};
-ghost use Rattle.defs.specs.Starts.{S};
+ghost use Rattle.defs.specs.Parts.{Starts};
 ghost use Rattle.defs.specs.Starts.Square64 as sq64;
 ghost use Rattle.defs.specs.Starts.Cube64 as cb64;
+use crate::power::square64;
 use tables::rcbrt_guess;
 use tables::rsqrt_guess;
 use wide::wmul32_hi;
@@ -39,11 +40,11 @@ fn near_sqrt64(n: u64, r: u32) -> u32
 
 pub(crate) fn start_sqrt64(n: u64) -> u32
     requires { ⌜ 2 ^ 62 ≤ n ⌝ }
-    ensures { λ s. ⌜ s ≡ S square u64 n ⌝ }
+    ensures { λ s. ⌜ Starts square u64 n s ⌝ }
 {
     let r = rsqrt64(n, first_rsqrt64(n));
     let a = near_sqrt64(n, r);
-    let e = n - (a as u64) * (a as u64);
+    let e = n - square64(a);
     a + wmul32_hi((e >> 32) as u32, r)
 }
 
@@ -78,7 +79,7 @@ fn rcbrt64(n: u64) -> u32
     wmul32_hi(x, t) / 3
 }
 
-// r: the three bits are given back, and one taken off so that the start is never above the root.
+// r: y, halved for an eighth of the value, and one less so that the start is never above the root.
 fn lowered_cbrt64(n: u64, y: u32) -> u32
     requires { ⌜ (2 ^ 61 ≤ n) × (y ≡ cb64.y n) ⌝ }
     ensures { λ r. ⌜ r ≡ cb64.r n ⌝ }
@@ -92,7 +93,7 @@ fn lowered_cbrt64(n: u64, y: u32) -> u32
 
 pub(crate) fn start_cbrt64(n: u64) -> u32
     requires { ⌜ 2 ^ 61 ≤ n ⌝ }
-    ensures { λ s. ⌜ s ≡ S cube u64 n ⌝ }
+    ensures { λ s. ⌜ Starts cube u64 n s ⌝ }
 {
     let r = lowered_cbrt64(n, rcbrt64(n));
     wmul32_hi(r, wmul32_hi(r, (n >> 32) as u32))

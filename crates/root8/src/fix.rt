@@ -2,7 +2,9 @@
 // and the gap to the next power carried along.
 ghost use Prim.Native.Nat.{_≤_};
 ghost use Rattle.defs.specs.Kinds.{square, cube, pow};
-ghost use Rattle.defs.specs.Answers.{Fixed};
+ghost use Rattle.defs.specs.Parts.{Fixed};
+use crate::power::cube8;
+use crate::power::square8;
 
 pub(crate) struct Fixed8 {
     pub(crate) root: u8,
@@ -15,7 +17,7 @@ pub(crate) fn fix_sqrt_error8(n: u8, start: u8) -> Fixed8
     ensures { λ r. ⌜ Fixed square n start (r .root) (r .rest) (r .steps) ⌝ }
 {
     let mut s = start;
-    let mut e = n - start * start;
+    let mut e = n - square8(start);
     let mut gap = 2 * start + 1;
     while e >= gap {
         s += 1;
@@ -34,9 +36,8 @@ pub(crate) fn fix_cbrt_error8(n: u8, start: u8) -> Fixed8
     ensures { λ r. ⌜ Fixed cube n start (r .root) (r .rest) (r .steps) ⌝ }
 {
     let mut c = start;
-    let cc = start * start;
-    let mut e = n - cc * start;
-    let mut gap = 3 * (cc + start) + 1;
+    let mut e = n - cube8(start);
+    let mut gap = 3 * (square8(start) + start) + 1;
     while e >= gap {
         c += 1;
         e -= gap;

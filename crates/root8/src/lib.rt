@@ -2,9 +2,11 @@
 ghost use Prim.Native.Nat.{ℕ};
 ghost use Rattle.defs.specs.Kinds.{Kind, square, cube, u8};
 ghost use Rattle.defs.specs.Roots.{IsRoot};
-ghost use Rattle.defs.specs.Answers.{Fixed, Full};
+ghost use Rattle.defs.specs.Answers.{Full};
+ghost use Rattle.defs.specs.Parts.{Fixed};
 
 mod fix;
+mod power;
 
 use fix::Fixed8;
 use fix::fix_cbrt_error8;

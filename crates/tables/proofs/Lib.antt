@@ -1,3 +1,2 @@
 pub mod Bracket
-pub mod Beyond
-pub mod Unpacked
+mod Held

@@ -1,8 +1,4 @@
-// The two tables of first guesses, and look-ups that answer at every index: of an entry, and of the guess that it stands for.
-ghost use mathlib.Core.Path.{_≡_};
-ghost use Rattle.defs.specs.Kinds.{square, cube};
-ghost use Rattle.defs.specs.Tables.{entry};
-
+// The two tables of first guesses; `words` looks them up, at every index.
 mod words;
 
 pub use words::rcbrt_guess;
@@ -167,17 +163,3 @@ const RCBRT_TAB: [u8; 56] = [
     0x02,
     0x01,
 ];
-
-// Entry i of RSQRT_TAB, and 0 past its end.
-pub fn rsqrt_entry(i: usize) -> u8
-    ensures { λ r. ⌜ r ≡ entry square i ⌝ }
-{
-    if i < 96 { RSQRT_TAB[i] } else { 0 }
-}
-
-// Entry i of RCBRT_TAB, and 0 past its end.
-pub fn rcbrt_entry(i: usize) -> u8
-    ensures { λ r. ⌜ r ≡ entry cube i ⌝ }
-{
-    if i < 56 { RCBRT_TAB[i] } else { 0 }
-}

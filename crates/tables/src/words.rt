@@ -1,58 +1,102 @@
-// The tables eight entries to a word. A constant array is laid out anew on the stack wherever one is read; a match of a few
-// words is not, and an entry is shifted out of its word.
+// The guesses that the entries stand for. A constant array that is read at a variable place is laid out anew on the stack at each
+// look-up; a match of words of eight entries, each read at constant places, is folded by the compiler.
 ghost use mathlib.Core.Path.{_≡_};
-ghost use Prim.Native.Nat.{_<_};
+ghost use Prim.Native.Nat.{_+_, _*_, _/_, _%_, _^_, _≤_, _<_};
+ghost use lib.ListN.{length, getD};
 ghost use Rattle.defs.specs.Kinds.{square, cube};
+ghost use Rattle.defs.specs.Tables.{rsqrtTab, rcbrtTab};
 ghost use Rattle.defs.specs.Starts.Letters.{guess};
-ghost use Rattle.tables.specs.Words.{word};
+ghost use Rattle.tables.specs.Words.{Holds};
+use crate::RCBRT_TAB;
+use crate::RSQRT_TAB;
 
-fn rsqrt_word(j: usize) -> u64
-    ensures { λ r. ⌜ r ≡ word square j ⌝ }
+// Of a parameter it is known that it is a byte, of an element of a slice it would have to be shown.
+fn widened(x: u8) -> u64
+    ensures { λ r. ⌜ (r ≡ x) × (r < 256) ⌝ }
 {
+    x as u64
+}
+
+// Digit d of word j, to base 256.
+fn digit(t: &[u8], j: usize, d: usize) -> u64
+    requires { ⌜ 8 * j + d < length (now t) ⌝ }
+    ensures { λ r. ⌜ (r ≡ getD (now (t .entry)) (8 * j + d) 0) × (r < 256) ⌝ }
+{
+    widened(t[8 * j + d])
+}
+
+// Word j of a table: the eight entries from 8j on, the first of them lowest.
+fn word_of(t: &[u8], j: usize) -> u64
+    requires { ⌜ 8 * j + 8 ≤ length (now t) ⌝ }
+    ensures { λ r. ⌜ Holds r (now (t .entry)) j ⌝ }
+{
+    digit(t, j, 0)
+        + 0x100 * digit(t, j, 1)
+        + 0x1_0000 * digit(t, j, 2)
+        + 0x100_0000 * digit(t, j, 3)
+        + 0x1_0000_0000 * digit(t, j, 4)
+        + 0x100_0000_0000 * digit(t, j, 5)
+        + 0x1_0000_0000_0000 * digit(t, j, 6)
+        + 0x100_0000_0000_0000 * digit(t, j, 7)
+}
+
+// Word j of RSQRT_TAB, and 0 past its end.
+fn rsqrt_word(j: usize) -> u64
+    ensures { λ r. ⌜ Holds r rsqrtTab j ⌝ }
+{
+    let t: &[u8] = &RSQRT_TAB;
     match j {
-        0 => 0xcdd3_d9df_e6ed_f4fc,
-        1 => 0xa4a9_adb2_b7bc_c2c7,
-        2 => 0x8588_8c90_9498_9ca0,
-        3 => 0x6b6e_7174_777b_7e81,
-        4 => 0x5759_5b5e_6163_6669,
-        5 => 0x4547_494b_4d50_5254,
-        6 => 0x3637_393b_3d3f_4143,
-        7 => 0x282a_2c2d_2f30_3234,
-        8 => 0x1d1e_1f21_2224_2527,
-        9 => 0x1214_1516_1719_1a1b,
-        10 => 0x090a_0b0c_0d0f_1011,
-        11 => 0x0102_0304_0506_0708,
+        0 => word_of(t, 0),
+        1 => word_of(t, 1),
+        2 => word_of(t, 2),
+        3 => word_of(t, 3),
+        4 => word_of(t, 4),
+        5 => word_of(t, 5),
+        6 => word_of(t, 6),
+        7 => word_of(t, 7),
+        8 => word_of(t, 8),
+        9 => word_of(t, 9),
+        10 => word_of(t, 10),
+        11 => word_of(t, 11),
         _ => 0,
     }
 }
 
+// Word j of RCBRT_TAB, and 0 past its end.
 fn rcbrt_word(j: usize) -> u64
-    ensures { λ r. ⌜ r ≡ word cube j ⌝ }
+    ensures { λ r. ⌜ Holds r rcbrtTab j ⌝ }
 {
+    let t: &[u8] = &RCBRT_TAB;
     match j {
-        0 => 0x9ba4_aeb9_c6d4_e4f6,
-        1 => 0x666b_7076_7c83_8a92,
-        2 => 0x4448_4b4f_5357_5c61,
-        3 => 0x2d2f_3235_383b_3e41,
-        4 => 0x1b1d_1f21_2325_282a,
-        5 => 0x0c0e_1011_1315_1719,
-        6 => 0x0102_0305_0608_090b,
+        0 => word_of(t, 0),
+        1 => word_of(t, 1),
+        2 => word_of(t, 2),
+        3 => word_of(t, 3),
+        4 => word_of(t, 4),
+        5 => word_of(t, 5),
+        6 => word_of(t, 6),
         _ => 0,
     }
+}
+
+// Entry i, shifted out of the word that holds it.
+fn entry_in(word: u64, i: usize) -> u32
+    ensures { λ r. ⌜ (r ≡ word / 2 ^ (8 * (i % 8)) % 256) × (r < 256) ⌝ }
+{
+    let place = 8 * (i % 8);
+    ((word >> place) % 256) as u32
 }
 
 // 256 + T[i], a number of nine bits; 256 past the table's end.
 pub fn rsqrt_guess(i: usize) -> u32
     ensures { λ r. ⌜ (r ≡ guess square i) × (r < 512) ⌝ }
 {
-    let place = 8 * (i % 8);
-    256 + ((rsqrt_word(i / 8) >> place) % 256) as u32
+    256 + entry_in(rsqrt_word(i / 8), i)
 }
 
 // 256 + U[i], a number of nine bits; 256 past the table's end.
 pub fn rcbrt_guess(i: usize) -> u32
     ensures { λ r. ⌜ (r ≡ guess cube i) × (r < 512) ⌝ }
 {
-    let place = 8 * (i % 8);
-    256 + ((rcbrt_word(i / 8) >> place) % 256) as u32
+    256 + entry_in(rcbrt_word(i / 8), i)
 }

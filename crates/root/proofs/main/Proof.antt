@@ -2,6 +2,7 @@
 use lib.Dec.{lit≤}
 use borrow.Author.Needs.{needs}
 use Rattle.reply.proofs.Held.{end-inside, end-is-length}
+use Rattle.reply.proofs.Cut.{own-reply}
 use Rattle.root.proofs.main.Statement.{statement}
 use Rattle.root.proofs.main.Tie as tie
 
@@ -12,10 +13,11 @@ main-spec =
     (λ c. search needs)
     (λ c κs. search needs)
     (λ c. search needs)
-    (λ c. search needs)
+    (λ c κs. search needs)
+    (λ c. end-inside _ (lit≤ tt) (own-reply (c .before .reply-to-window .ensures)))
+    (λ c. end-is-length _ (lit≤ tt) (own-reply (c .before .before .reply-to-window .ensures)))
+    (λ c κs. search needs)
     (λ c. search needs)
     (λ c κs. search needs)
-    (λ c. end-inside _ (lit≤ tt) (c .before .reply .ensures))
-    (λ c. end-is-length _ (lit≤ tt) (c .before .before .reply .ensures))
-    (λ c κs. search needs)
+    (λ c. search needs)
     (λ c. search needs))

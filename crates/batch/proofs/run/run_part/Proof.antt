@@ -3,7 +3,7 @@ use Prim.Native.Nat.{_-_}
 use native.Mathlib.Omega.{arith}
 use borrow.Author.Needs.{needs}
 use lib.ListN.{length}
-use Rattle.batch.proofs.Going.{Going, begins, goes-on, ends, too-dear}
+use Rattle.batch.proofs.Going.{Going, begins, goes-on, ends}
 use Rattle.batch.proofs.run.run_part.Statement.{statement}
 use Rattle.batch.proofs.run.run_part.Tie as tie
 
@@ -17,18 +17,17 @@ abbrev μ-loop : tie.MeasureT-loop
 stops-short : tie.Need-returns Inv-loop μ-loop
 stops-short c =
     let call = c .before .before in
-    let at = call .before .before .before .loop .inv in
-    ends at (too-dear at (call .sqrt-rem .ensures) (c .if1 .taken))
+    ends (call .before .before .before .loop .inv) (λ more. omega (arith, call .sqrt-rem .ensures .is-steps))
 
 loop-again : tie.Need-loop-again Inv-loop μ-loop
 loop-again c =
     let call = c .before .before in
     let turn = call .before .before in
-    goes-on (turn .before .before .before .before .pre) (turn .before .loop .inv) (turn .loop-test .taken) (call .sqrt-rem .ensures) (c .if1 .left)
+    goes-on (turn .before .before .before .before .pre) (turn .before .loop .inv) (turn .loop-test .taken) (call .sqrt-rem .ensures) (omega arith)
 
 -- no value is left
 finishes : tie.Need-returns-2 Inv-loop μ-loop
-finishes c = ends (c .before .loop .inv) (λ more. absurd (omega arith))
+finishes c = ends (c .before .loop .inv) (λ more. omega arith)
 
 pub run-part-spec : {M : Type 1} → statement M
 run-part-spec =
@@ -36,7 +35,7 @@ run-part-spec =
     (tie.spec
     Inv-loop
     μ-loop
-    (λ c. begins _ _ _)
+    (λ c. begins)
     (λ c. search needs)
     (λ c. search needs)
     (λ c κs. search needs)

@@ -1,15 +1,16 @@
 -- `root16::fix::fix_sqrt_error16` meets its contract: the fix-up law, at squares of 16 bits. Assumes nothing.
 use native.Mathlib.Omega.{arith}
+use borrow.Author.Needs.{needs}
 use Rattle.defs.specs.Kinds.{square, u16}
 use Rattle.laws.proofs.FixUp.{Walk, begins, goes-on, ends, walk-fits}
 use Rattle.root16.proofs.fix.fix_sqrt_error16.Statement.{statement}
 use Rattle.root16.proofs.fix.fix_sqrt_error16.Tie as tie
 
 abbrev Inv-loop : tie.InvT-loop
-Inv-loop n start s₀ wide e₀ gap₀ s e gap = Walk square u16 n start s e gap
+Inv-loop n start s₀ e₀ gap₀ s e gap = Walk square u16 n start s e gap
 
 abbrev μ-loop : tie.MeasureT-loop
-μ-loop n start s₀ wide e₀ gap₀ s e gap = e
+μ-loop n start s₀ e₀ gap₀ s e gap = e
 
 pub fix-sqrt-error16-spec : {M : Type 1} → statement M
 fix-sqrt-error16-spec =
@@ -17,14 +18,14 @@ fix-sqrt-error16-spec =
     (tie.spec
     Inv-loop
     μ-loop
-    (λ c. omega (arith, walk-fits (begins square u16 (c .pre) (c .fits .n .fits))))
+    (λ c κs. search needs)
+    (λ c. omega (arith, c .before .pre, c .square16 .ensures))
     (λ c. omega arith)
-    (λ c. omega (arith, walk-fits (begins square u16 (c .pre) (c .fits .n .fits))))
-    (λ c. omega (arith, walk-fits (begins square u16 (c .pre) (c .fits .n .fits))))
-    (λ c. begins square u16 (c .pre) (c .fits .n .fits))
+    (λ c. omega (arith, walk-fits (begins square u16 (c .before .pre) (c .before .fits .n .fits))))
+    (λ c. rw (c .square16 .ensures) (begins square u16 (c .before .pre) (c .before .fits .n .fits)))
     (λ c. omega (arith, walk-fits (goes-on (c .before .loop .inv) (c .loop-test .taken))))
     (λ c. omega (arith, walk-fits (goes-on (c .before .loop .inv) (c .loop-test .taken))))
     (λ c. omega arith)
     (λ c. goes-on (c .before .loop .inv) (c .loop-test .taken))
     (λ c. omega arith)
-    (λ c. ends (c .before .loop .inv) (c .loop-test .left)))
+    (λ c. ends (c .before .loop .inv) (c .loop-test .left) (omega (arith, c .before .loop .inv .passed))))

@@ -1,7 +1,9 @@
 -- `root16::start::start_cbrt16` meets its contract: it is S of the scope document, letter by letter. Assumes nothing.
 use native.Mathlib.Omega.{arith}
 use borrow.Author.Needs.{needs}
+use Rattle.defs.specs.Kinds.{cube, u16}
 use Rattle.defs.specs.Starts.Cube16.{r, S}
+use Rattle.starts.proofs.Calls.{starts}
 use Rattle.starts.proofs.Cube16.{safe}
 use Rattle.root16.proofs.start.start_cbrt16.Statement.{statement}
 use Rattle.root16.proofs.start.start_cbrt16.Tie as tie
@@ -33,7 +35,10 @@ cast-result c =
 
 returns : tie.Need-returns
 unfolding r S
-returns c = rw (c .scaled-square16 .ensures, c .before .rcbrt-guess .ensures .0, c .before .before .place-cbrt16 .ensures)
+returns c =
+    let at-start = c .before .before .before in
+    starts cube u16 (at-start .pre) (at-start .fits .n .fits)
+    (rw (c .scaled-square16 .ensures, c .before .rcbrt-guess .ensures .0, c .before .before .place-cbrt16 .ensures))
 
 pub start-cbrt16-spec : {M : Type 1} → statement M
 start-cbrt16-spec =

@@ -1,7 +1,9 @@
 -- `root16::start::start_sqrt16` meets its contract: it is S of the scope document, letter by letter. Assumes nothing.
 use native.Mathlib.Omega.{arith}
 use borrow.Author.Needs.{needs}
+use Rattle.defs.specs.Kinds.{square, u16}
 use Rattle.defs.specs.Starts.Square16.{r, S}
+use Rattle.starts.proofs.Calls.{starts}
 use Rattle.starts.proofs.Square16.{safe}
 use Rattle.root16.proofs.start.start_sqrt16.Statement.{statement}
 use Rattle.root16.proofs.start.start_sqrt16.Tie as tie
@@ -18,11 +20,13 @@ sub-result c =
 
 cast-result : tie.Need-cast-result
 unfolding r S
-cast-result c = rw (c .rsqrt-guess .ensures .0) (record { fits = safe (c .before .args .n) (c .before .pre) (c .before .fits .n .fits) .fits })
+cast-result c =
+    rw (c .rsqrt-guess .ensures .0)
+    (omega (arith, safe (c .before .args .n) (c .before .pre) (c .before .fits .n .fits) .fits))
 
 returns : tie.Need-returns
 unfolding r S
-returns c = rw (c .rsqrt-guess .ensures .0)
+returns c = starts square u16 (c .before .pre) (c .before .fits .n .fits) (rw (c .rsqrt-guess .ensures .0))
 
 pub start-sqrt16-spec : {M : Type 1} → statement M
 start-sqrt16-spec =

@@ -1,7 +1,8 @@
 -- `root32::start::start_sqrt32` meets its contract: it is S of the scope document, letter by letter. Assumes nothing.
-use native.Mathlib.Omega.{arith}
 use borrow.Author.Needs.{needs}
+use Rattle.defs.specs.Kinds.{square, u32}
 use Rattle.defs.specs.Starts.Square32.{S}
+use Rattle.starts.proofs.Calls.{starts}
 use Rattle.starts.proofs.Square32.{Safe, safe}
 use Rattle.root32.proofs.start.start_sqrt32.Statement.{statement}
 use Rattle.root32.proofs.start.start_sqrt32.Tie as tie
@@ -10,23 +11,23 @@ use Rattle.root32.proofs.start.start_sqrt32.Tie as tie
 safe-at : (c : tie.Start) → Safe (c .args .n)
 safe-at c = safe (c .args .n) (c .pre) (c .fits .n .fits)
 
-mul-e : tie.Need-mul-e
-mul-e c =
-    let s = c .before .before in
-    rw (c .near-sqrt32 .ensures) (omega (arith, safe-at s .square-fits, s .fits .n .fits))
-
 sub-e : tie.Need-sub-e
-sub-e c = rw (c .near-sqrt32 .ensures) (safe-at (c .before .before) .square-fits)
+sub-e c = rw (c .square32 .ensures, c .before .near-sqrt32 .ensures) (safe-at (c .before .before .before) .square-fits)
 
 add-result : tie.Need-add-result
 unfolding S
 add-result c =
-    rw (c .wmul16-hi .ensures, c .before .near-sqrt32 .ensures, c .before .before .rsqrt32 .ensures)
-    (record { fits = safe-at (c .before .before .before) .S-fits })
+    let e = c .before in
+    rw (c .wmul16-hi .ensures, e .square32 .ensures, e .before .near-sqrt32 .ensures, e .before .before .rsqrt32 .ensures)
+    (record { fits = safe-at (e .before .before .before) .S-fits })
 
 returns : tie.Need-returns
 unfolding S
-returns c = rw (c .wmul16-hi .ensures, c .before .near-sqrt32 .ensures, c .before .before .rsqrt32 .ensures)
+returns c =
+    let e = c .before in
+    let s = e .before .before .before in
+    starts square u32 (s .pre) (s .fits .n .fits)
+    (rw (c .wmul16-hi .ensures, e .square32 .ensures, e .before .near-sqrt32 .ensures, e .before .before .rsqrt32 .ensures))
 
 pub start-sqrt32-spec : {M : Type 1} → statement M
 start-sqrt32-spec =
@@ -34,9 +35,7 @@ start-sqrt32-spec =
     (tie.spec
     (λ c κs. search needs)
     (λ c κs. search needs)
-    (λ c. search needs)
-    (λ c. search needs)
-    mul-e
+    (λ c κs. search needs)
     sub-e
     (λ c. search needs)
     (λ c κs. search needs)

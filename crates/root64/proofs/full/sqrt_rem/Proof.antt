@@ -1,30 +1,24 @@
--- `root64::full::sqrt_rem` meets its contract: the value 0, its own rest, and the rest worked out anew. Assumes nothing.
-use mathlib.Core.Path.{refl}
+-- `root64::full::sqrt_rem` meets its contract: a value with its top bits, the value 0, and any other. Assumes nothing.
+use native.Mathlib.Omega.{arith}
 use borrow.Author.Needs.{needs}
 use Rattle.defs.specs.Kinds.{square, u64}
 use Rattle.laws.proofs.Bills.{full-zero}
-use Rattle.laws.proofs.Full.{settled}
+use Rattle.laws.proofs.Full.{own-answer}
 use Rattle.root64.proofs.full.sqrt_rem.Statement.{statement}
 use Rattle.root64.proofs.full.sqrt_rem.Tie as tie
 
-own-rest : tie.Need-returns-2
-own-rest c =
-    let a = c .before .before .brought-sqrt64 in
-    settled square u64 (c .before .before .before .if1 .left) (a .ensures) (a .ensures .own-rest (c .if2 .taken))
-
-rest-anew : tie.Need-returns-3
-rest-anew c =
-    let a = c .before .before .before in
-    settled square u64 (a .before .if1 .left) (a .brought-sqrt64 .ensures) refl
+own : tie.Need-returns
+own c =
+    let t = c .before .before in
+    own-answer square u64 tt (omega (arith, t .if1 .taken)) (t .before .fits .n .fits) (c .before .start-sqrt64 .ensures) (c .fix-sqrt-error64 .ensures)
 
 pub sqrt-rem-spec : {M : Type 1} → statement M
 sqrt-rem-spec =
     tie.close
     (tie.spec
-    (λ c. full-zero square u64 (c .if1 .taken))
     (λ c κs. search needs)
-    own-rest
-    (λ c. search needs)
-    (λ c. search needs)
-    (λ c. search needs)
-    rest-anew)
+    (λ c κs. search needs)
+    own
+    (λ c. full-zero square u64 (c .if2 .taken))
+    (λ c κs. search needs)
+    (λ c. search needs))
