@@ -12,6 +12,12 @@
 #include <stddef.h>
 #include <stdint.h>
 
+/* The middle number goes up with each call that is added, the first where a struct or a call changes. */
+#define FREGNAUL_VERSION_MAJOR 1
+#define FREGNAUL_VERSION_MINOR 0
+#define FREGNAUL_VERSION_PATCH 0
+#define FREGNAUL_VERSION "1.0.0"
+
 #if SIZE_MAX != UINT64_MAX
 #error "fregnaul: lengths are 64 bits wide"
 #endif
