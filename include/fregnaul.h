@@ -217,7 +217,8 @@ fregnaul_rebuilt_u64 fregnaul_rebuild_cube_u64(uint32_t root, uint64_t rest);
 /* ---- The batch: square roots of a part of many values, under a budget of steps ----
  *
  * A value costs the steps that its full call reports. done is how many of the part's values, in order, the budget pays
- * for; spent is what they cost. A budget that runs out is no refusal: a later call goes on from first + done.
+ * for; spent is what they cost. A budget that runs out is no refusal: a later call goes on from first + done. No value costs
+ * more than 2, so a budget of at least 2 always goes on, and one of 2 * count finishes; one below 2 may stand still.
  *
  * Each pointer has as many elements behind it as its length says, and the two must not overlap. With length 0 nothing is
  * read or written there.
