@@ -28,7 +28,7 @@ extern "C" {
 
 /* A call that can refuse has one of these numbers in its answer's `refusal`; a refused answer's other fields are 0. */
 enum fregnaul_refusal {
-    FREGNAUL_NO_REFUSAL = 0,       /* not refused */
+    FREGNAUL_NO_REFUSAL = 0,     /* not refused */
     FREGNAUL_NOT_NORMALIZED = 1, /* n is below the bound of the normalised call */
     FREGNAUL_FIRST_BEYOND = 2,   /* first is above the number of values */
     FREGNAUL_COUNT_BEYOND = 3,   /* count is above the number of values less first */
