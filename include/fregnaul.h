@@ -12,6 +12,12 @@
 #include <stddef.h>
 #include <stdint.h>
 
+/* The middle number goes up with each call that is added, the first where a struct or a call changes. */
+#define FREGNAUL_VERSION_MAJOR 1
+#define FREGNAUL_VERSION_MINOR 0
+#define FREGNAUL_VERSION_PATCH 0
+#define FREGNAUL_VERSION "1.0.0"
+
 #if SIZE_MAX != UINT64_MAX
 #error "fregnaul: lengths are 64 bits wide"
 #endif
@@ -22,7 +28,7 @@ extern "C" {
 
 /* A call that can refuse has one of these numbers in its answer's `refusal`; a refused answer's other fields are 0. */
 enum fregnaul_refusal {
-    FREGNAUL_NO_REFUSAL = 0,       /* not refused */
+    FREGNAUL_NO_REFUSAL = 0,     /* not refused */
     FREGNAUL_NOT_NORMALIZED = 1, /* n is below the bound of the normalised call */
     FREGNAUL_FIRST_BEYOND = 2,   /* first is above the number of values */
     FREGNAUL_COUNT_BEYOND = 3,   /* count is above the number of values less first */
@@ -211,7 +217,8 @@ fregnaul_rebuilt_u64 fregnaul_rebuild_cube_u64(uint32_t root, uint64_t rest);
 /* ---- The batch: square roots of a part of many values, under a budget of steps ----
  *
  * A value costs the steps that its full call reports. done is how many of the part's values, in order, the budget pays
- * for; spent is what they cost. A budget that runs out is no refusal: a later call goes on from first + done.
+ * for; spent is what they cost. A budget that runs out is no refusal: a later call goes on from first + done. No value costs
+ * more than 2, so a budget of at least 2 always goes on, and one of 2 * count finishes; one below 2 may stand still.
  *
  * Each pointer has as many elements behind it as its length says, and the two must not overlap. With length 0 nothing is
  * read or written there.

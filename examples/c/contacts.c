@@ -10,18 +10,15 @@ typedef struct vector {
     int32_t x, y, z;
 } vector;
 
-static const char *reason(uint8_t refusal) {
-    switch (refusal) {
-    case FREGNAUL_NO_REFUSAL: return "answered";
-    case FREGNAUL_NOT_NORMALIZED: return "not normalised";
-    case FREGNAUL_FIRST_BEYOND: return "first beyond the values";
-    case FREGNAUL_COUNT_BEYOND: return "count beyond the values";
-    case FREGNAUL_LENGTHS_DIFFER: return "lengths differ";
-    case FREGNAUL_REST_BEYOND: return "rest beyond its root";
-    case FREGNAUL_VALUE_BEYOND: return "value beyond its width";
-    default: return "no refusal of ours";
-    }
-}
+static const char *const reasons[] = {
+    [FREGNAUL_NO_REFUSAL] = "answered",
+    [FREGNAUL_NOT_NORMALIZED] = "not normalised",
+    [FREGNAUL_FIRST_BEYOND] = "first beyond the values",
+    [FREGNAUL_COUNT_BEYOND] = "count beyond the values",
+    [FREGNAUL_LENGTHS_DIFFER] = "lengths differ",
+    [FREGNAUL_REST_BEYOND] = "rest beyond its root",
+    [FREGNAUL_VALUE_BEYOND] = "value beyond its width",
+};
 
 /* Three squares of 32-bit numbers are below 2^64 together. */
 static uint64_t squared_length(vector v) {
@@ -60,7 +57,7 @@ static void run_frames(const uint32_t squared[PAIRS], uint16_t roots[PAIRS]) {
 
 static void print_refused_batch(const uint32_t squared[PAIRS], uint16_t roots[PAIRS]) {
     fregnaul_batch_answer ran = fregnaul_sqrt_batch_u32(squared, PAIRS, roots, PAIRS, 4, 3, BUDGET_A_FRAME);
-    printf("3 pairs from place 4 on: refusal %d, %s; %zu pairs done\n", ran.refusal, reason(ran.refusal), ran.done);
+    printf("3 pairs from place 4 on: refusal %d, %s; %zu pairs done\n", ran.refusal, reasons[ran.refusal], ran.done);
     print_roots(roots);
 }
 
@@ -69,7 +66,7 @@ static void print_normalized(uint32_t n) {
     if (r.refusal == FREGNAUL_NO_REFUSAL)
         printf("normalised %" PRIu32 ": root %" PRIu16 ", start %" PRIu16 ", %" PRIu16 " steps\n", n, r.root, r.start, r.steps);
     else
-        printf("normalised %" PRIu32 ": refusal %d, %s\n", n, r.refusal, reason(r.refusal));
+        printf("normalised %" PRIu32 ": refusal %d, %s\n", n, r.refusal, reasons[r.refusal]);
 }
 
 static void print_rebuilt(uint16_t root, uint32_t rest) {
@@ -77,7 +74,7 @@ static void print_rebuilt(uint16_t root, uint32_t rest) {
     if (r.refusal == FREGNAUL_NO_REFUSAL)
         printf("cube of %" PRIu16 " and %" PRIu32 ": %" PRIu32 "\n", root, rest, r.value);
     else
-        printf("cube of %" PRIu16 " and %" PRIu32 ": refusal %d, %s\n", root, rest, r.refusal, reason(r.refusal));
+        printf("cube of %" PRIu16 " and %" PRIu32 ": refusal %d, %s\n", root, rest, r.refusal, reasons[r.refusal]);
 }
 
 int main(void) {

@@ -1,5 +1,5 @@
 // Contact lengths in whole numbers: the same on every machine of a lockstep game.
-#include "fregnaul.hpp"
+#include <fregnaul.hpp>
 
 #include <array>
 #include <cstdint>
@@ -91,10 +91,7 @@ int main() {
     print_lengths();
     run_frames(p);
     print_refused_batch(p);
-    print_normalized(1073741824);
-    print_normalized(1073741823);
-    print_rebuilt(1625, 3951670);
-    print_rebuilt(1625, 3951671);
-    print_rebuilt(1625, 7926751);
+    for (const auto n : {1073741824u, 1073741823u}) print_normalized(n);
+    for (const auto rest : {3951670u, 3951671u, 7926751u}) print_rebuilt(1625, rest);
     return 0;
 }

@@ -1,15 +1,19 @@
-// Links the archive of the proved calls: from the folder that FREGNAUL_ARCHIVE names, or from this repository's target/staticlib.
-use std::path::PathBuf;
+// Links the archive of the proved calls, from the folder that FREGNAUL_ARCHIVE names or this repository's target/staticlib.
+use std::path::Path;
 
 fn main() {
-    let folder = match std::env::var_os("FREGNAUL_ARCHIVE") {
-        Some(named) => PathBuf::from(named),
-        None => PathBuf::from(std::env::var_os("CARGO_MANIFEST_DIR").unwrap()).join("../../target/staticlib"),
-    };
-    let archive = folder.join("libexports.a");
-    assert!(archive.is_file(), "no archive at {}: `rt staticlib exports` builds it", archive.display());
+    let named = std::env::var_os("FREGNAUL_ARCHIVE").unwrap_or_else(|| "../../target/staticlib".into());
+    let folder = Path::new(env!("CARGO_MANIFEST_DIR")).join(named);
+    let archive = folder.join("libfregnaul.a");
+    if !archive.is_file() {
+        eprintln!(
+            "no archive at {}: run ./archive in the repository, or set FREGNAUL_ARCHIVE to the folder that holds libfregnaul.a",
+            archive.display()
+        );
+        std::process::exit(1);
+    }
     println!("cargo:rustc-link-search=native={}", folder.display());
-    println!("cargo:rustc-link-lib=static=exports");
+    println!("cargo:rustc-link-lib=static=fregnaul");
     println!("cargo:rerun-if-env-changed=FREGNAUL_ARCHIVE");
     println!("cargo:rerun-if-changed={}", archive.display());
 }

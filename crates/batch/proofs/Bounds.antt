@@ -45,7 +45,12 @@ module _ {values before after : List ℕ} {first count budget refusal done spent
       ⊎-elim (λ none. omega (arith, b .if-answered none .is-spent, part-most first count values u done (done-within none))) (λ some.
       omega (arith, b .if-refused some .none-spent)) (refused-or-not refusal)
 
-  -- so a budget of two steps a value finishes
+  -- so a budget of two steps does at least one value
+  pub moves-on : U32s values → refusal ≡ noRefusal → 0 < count → 2 ≤ budget → 0 < done
+  moves-on u none some enough =
+      b .if-answered none .is-done .largest 1 (record { within = omega (arith, part-is none); in-budget = omega (arith, part-most first count values u 1 some) })
+
+  -- and one of two steps a value finishes
   pub finishes : U32s values → refusal ≡ noRefusal → 2 * count ≤ budget → done ≡ count
   finishes u none enough =
       let whole : Affords (part first count values) budget count =

@@ -1,7 +1,31 @@
 //! Whole-number square and cube roots with remainder for u8, u16, u32 and u64, by the proved calls of the archive.
 //!
-//! `SquareRootRem`, `CubicRootRem`, `SquareRoot` and `CubicRoot` have dashu-base's names and shapes, so that
-//! `use dashu_base::{..}` becomes `use fregnaul::{..}` and nothing else changes. The functions also keep start and steps.
+//! [`SquareRootRem`], [`CubicRootRem`], [`SquareRoot`] and [`CubicRoot`] have dashu-base's names and shapes. The functions
+//! [`sqrt_rem`] and [`cbrt_rem`] also keep start and steps.
+//!
+//! ```
+//! use fregnaul::SquareRootRem;
+//! assert_eq!(26u32.sqrt_rem(), (5, 1));
+//! ```
+//!
+//! # In place of dashu-base
+//!
+//! An engine changes three things:
+//!
+//! - in its `Cargo.toml`, `dashu-base = ..` to `fregnaul = { path = "../fregnaul/examples/rust" }`;
+//! - in its source, `use dashu_base::{..}` to `use fregnaul::{..}`;
+//! - in its build, `./archive` in Fregnaul's repository comes first: it writes `target/staticlib/libfregnaul.a`, for x86-64
+//!   Linux. Where that file lies elsewhere, the environment variable `FREGNAUL_ARCHIVE` names its folder.
+//!
+//! Roots of u128, and what else dashu-base has, are not here: an engine that needs them keeps dashu-base beside this crate.
+//!
+//! # Without std
+//!
+//! The crate is `no_std`. Its feature `std`, which is on by default, makes [`Refusal`] a `std::error::Error`.
+#![no_std]
+
+#[cfg(feature = "std")]
+extern crate std;
 
 mod raw;
 mod refusal;
@@ -77,15 +101,7 @@ pub struct Done {
 pub fn sqrt_batch(values: &[u32], roots: &mut [u16], first: usize, count: usize, budget: u64) -> Result<Done, Refusal> {
     // Safety: both pointers go with their own slices' lengths, and the call keeps neither.
     let answer = unsafe {
-        raw::fregnaul_sqrt_batch_u32(
-            values.as_ptr(),
-            values.len(),
-            roots.as_mut_ptr(),
-            roots.len(),
-            first,
-            count,
-            budget,
-        )
+        raw::fregnaul_sqrt_batch_u32(values.as_ptr(), values.len(), roots.as_mut_ptr(), roots.len(), first, count, budget)
     };
     refusal::answered(answer.refusal, Done { done: answer.done, spent: answer.spent })
 }

@@ -1,4 +1,8 @@
-//! The archive's functions and structs as C has them. Everything else stands on this file alone.
+//! The archive's functions and structs as C has them; checks/bindings holds them to include/fregnaul.h. Everything else
+//! stands on this file alone.
+
+#[cfg(not(target_pointer_width = "64"))]
+compile_error!("fregnaul: lengths are 64 bits wide");
 
 /// What a full call answers: root and rest, where the fix-up started and how many steps it took.
 #[repr(C)]
@@ -12,7 +16,6 @@ pub struct Root<R, N> {
 
 /// What a normalised call answers: `refusal` is 0, or 1 with zeros beside it.
 #[repr(C)]
-#[derive(Clone, Copy, Debug, PartialEq, Eq)]
 pub struct NormalizedRoot<R, N> {
     pub refusal: u8,
     pub root: R,
@@ -23,7 +26,6 @@ pub struct NormalizedRoot<R, N> {
 
 /// What rebuilding answers: `refusal` is 0, or 5 or 6 with a value of 0.
 #[repr(C)]
-#[derive(Clone, Copy, Debug, PartialEq, Eq)]
 pub struct Rebuilt<N> {
     pub refusal: u8,
     pub value: N,
@@ -31,7 +33,6 @@ pub struct Rebuilt<N> {
 
 /// What a batch answers: `refusal` is 0, or 2, 3 or 4 with zeros beside it.
 #[repr(C)]
-#[derive(Clone, Copy, Debug, PartialEq, Eq)]
 pub struct BatchAnswer {
     pub refusal: u8,
     pub done: usize,

@@ -1,4 +1,5 @@
 //! Why a call did not answer.
+use core::fmt;
 
 /// The refusals, with the numbers that the archive gives.
 #[derive(Clone, Copy, Debug, PartialEq, Eq)]
@@ -29,12 +30,13 @@ impl Refusal {
     }
 }
 
-impl std::fmt::Display for Refusal {
-    fn fmt(&self, out: &mut std::fmt::Formatter<'_>) -> std::fmt::Result {
+impl fmt::Display for Refusal {
+    fn fmt(&self, out: &mut fmt::Formatter<'_>) -> fmt::Result {
         write!(out, "refusal {}: {}", self.number(), self.meaning())
     }
 }
 
+#[cfg(feature = "std")]
 impl std::error::Error for Refusal {}
 
 /// The answer, or the refusal of that number. The archive is proved to give no number but these.

@@ -1,6 +1,6 @@
 //! The calls by width: which function of the archive serves which type. None of those functions needs anything of its
 //! caller, so each `unsafe` below is sound for every argument.
-use crate::raw::{self, Root};
+use crate::raw::{self, NormalizedRoot, Rebuilt, Root};
 use crate::refusal::answered;
 use crate::{CubicRoot, CubicRootRem, Refusal, SquareRoot, SquareRootRem};
 
@@ -20,19 +20,32 @@ pub trait Normalized: Width {
     fn normalized_cbrt(self) -> Result<Root<Self::Root, Self>, Refusal>;
 }
 
+impl<R, N> NormalizedRoot<R, N> {
+    fn answer(self) -> Result<Root<R, N>, Refusal> {
+        let NormalizedRoot { refusal, root, rest, start, steps } = self;
+        answered(refusal, Root { root, rest, start, steps })
+    }
+}
+
+impl<N> Rebuilt<N> {
+    fn answer(self) -> Result<N, Refusal> {
+        answered(self.refusal, self.value)
+    }
+}
+
 macro_rules! traits_of_dashu {
-    ($n:ty, $root:ty, $sqrt_rem:ident, $cbrt_rem:ident, $sqrt:ident, $cbrt:ident) => {
+    ($n:ty, $root:ty, $sqrt:ident, $cbrt:ident) => {
         impl SquareRootRem for $n {
             type Output = $root;
             fn sqrt_rem(&self) -> ($root, $n) {
-                let answer = unsafe { raw::$sqrt_rem(*self) };
+                let answer = self.full_sqrt();
                 (answer.root, answer.rest)
             }
         }
         impl CubicRootRem for $n {
             type Output = $root;
             fn cbrt_rem(&self) -> ($root, $n) {
-                let answer = unsafe { raw::$cbrt_rem(*self) };
+                let answer = self.full_cbrt();
                 (answer.root, answer.rest)
             }
         }
@@ -62,12 +75,10 @@ macro_rules! width {
                 unsafe { raw::$cbrt_rem(self) }
             }
             fn rebuilt_square(root: $root, rest: $n) -> Result<$n, Refusal> {
-                let rebuilt = unsafe { raw::$square(root, rest) };
-                answered(rebuilt.refusal, rebuilt.value)
+                unsafe { raw::$square(root, rest) }.answer()
             }
             fn rebuilt_cube(root: $root, rest: $n) -> Result<$n, Refusal> {
-                let rebuilt = unsafe { raw::$cube(root, rest) };
-                answered(rebuilt.refusal, rebuilt.value)
+                unsafe { raw::$cube(root, rest) }.answer()
             }
         }
     };
@@ -77,21 +88,19 @@ macro_rules! normalized {
     ($n:ty, $root:ty, $sqrt_rem:ident, $cbrt_rem:ident) => {
         impl Normalized for $n {
             fn normalized_sqrt(self) -> Result<Root<$root, $n>, Refusal> {
-                let a = unsafe { raw::$sqrt_rem(self) };
-                answered(a.refusal, Root { root: a.root, rest: a.rest, start: a.start, steps: a.steps })
+                unsafe { raw::$sqrt_rem(self) }.answer()
             }
             fn normalized_cbrt(self) -> Result<Root<$root, $n>, Refusal> {
-                let a = unsafe { raw::$cbrt_rem(self) };
-                answered(a.refusal, Root { root: a.root, rest: a.rest, start: a.start, steps: a.steps })
+                unsafe { raw::$cbrt_rem(self) }.answer()
             }
         }
     };
 }
 
-traits_of_dashu!(u8, u8, fregnaul_sqrt_rem_u8, fregnaul_cbrt_rem_u8, fregnaul_sqrt_u8, fregnaul_cbrt_u8);
-traits_of_dashu!(u16, u8, fregnaul_sqrt_rem_u16, fregnaul_cbrt_rem_u16, fregnaul_sqrt_u16, fregnaul_cbrt_u16);
-traits_of_dashu!(u32, u16, fregnaul_sqrt_rem_u32, fregnaul_cbrt_rem_u32, fregnaul_sqrt_u32, fregnaul_cbrt_u32);
-traits_of_dashu!(u64, u32, fregnaul_sqrt_rem_u64, fregnaul_cbrt_rem_u64, fregnaul_sqrt_u64, fregnaul_cbrt_u64);
+traits_of_dashu!(u8, u8, fregnaul_sqrt_u8, fregnaul_cbrt_u8);
+traits_of_dashu!(u16, u8, fregnaul_sqrt_u16, fregnaul_cbrt_u16);
+traits_of_dashu!(u32, u16, fregnaul_sqrt_u32, fregnaul_cbrt_u32);
+traits_of_dashu!(u64, u32, fregnaul_sqrt_u64, fregnaul_cbrt_u64);
 
 width!(u8, u8, fregnaul_sqrt_rem_u8, fregnaul_cbrt_rem_u8, fregnaul_rebuild_square_u8, fregnaul_rebuild_cube_u8);
 width!(u16, u8, fregnaul_sqrt_rem_u16, fregnaul_cbrt_rem_u16, fregnaul_rebuild_square_u16, fregnaul_rebuild_cube_u16);
