@@ -13,10 +13,10 @@
 #include <stdint.h>
 
 /* The middle number goes up with each call that is added, the first where a struct or a call changes. */
-#define FREGNAUL_VERSION_MAJOR 1
+#define FREGNAUL_VERSION_MAJOR 2
 #define FREGNAUL_VERSION_MINOR 0
 #define FREGNAUL_VERSION_PATCH 0
-#define FREGNAUL_VERSION "1.0.0"
+#define FREGNAUL_VERSION "2.0.0"
 
 #if SIZE_MAX != UINT64_MAX
 #error "fregnaul: lengths are 64 bits wide"
@@ -40,7 +40,7 @@ enum fregnaul_refusal {
 /* ---- Full calls: any n, never refused ----
  *
  * start is where the walk to the root began, steps how many ones it took: both of the normalised call on n shifted to
- * its top bits, and not shifted back. At 0 both are 0. At 8 bits start is the root and steps is 0.
+ * its top bits, and not shifted back. At 0 both are 0. At 8 bits start is 0 and steps is the root.
  */
 
 typedef struct fregnaul_root_rem_u8 {
@@ -71,10 +71,10 @@ typedef struct fregnaul_root_rem_u64 {
     uint32_t steps;
 } fregnaul_root_rem_u64;
 
-/* Square root and rest of n; 0 steps. */
+/* Square root and rest of n; at most 15 steps. */
 fregnaul_root_rem_u8 fregnaul_sqrt_rem_u8(uint8_t n);
 
-/* Cube root and rest of n; 0 steps. */
+/* Cube root and rest of n; at most 6 steps. */
 fregnaul_root_rem_u8 fregnaul_cbrt_rem_u8(uint8_t n);
 
 /* Square root and rest of n; at most 3 steps. */

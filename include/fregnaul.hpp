@@ -100,10 +100,10 @@ template <class N> using rebuilt = decltype(detail::calls<N>::rebuild_square(roo
 
 // ---- Full calls: any n, never refused ----
 
-// Square root and rest of n; at most 0, 3, 2 and 2 steps at 8, 16, 32 and 64 bits.
+// Square root and rest of n; at most 15, 3, 2 and 2 steps at 8, 16, 32 and 64 bits.
 template <class N> root_rem<N> sqrt_rem(N n) { return detail::calls<N>::sqrt_rem(n); }
 
-// Cube root and rest of n; at most 0, 3, 3 and 6 steps at 8, 16, 32 and 64 bits.
+// Cube root and rest of n; at most 6, 3, 3 and 6 steps at 8, 16, 32 and 64 bits.
 template <class N> root_rem<N> cbrt_rem(N n) { return detail::calls<N>::cbrt_rem(n); }
 
 // ---- Roots alone: any n, never refused ----

@@ -104,7 +104,7 @@ pub fn bill(kind: Kind, width: u32, n: u128, root: u128, root_of: impl Fn(u128) 
         return (0, 0);
     }
     if width == 8 {
-        return (root, 0);
+        return (0, root);
     }
     let raised = n << shift(kind, width, n);
     let start = start(kind, width, raised);

@@ -24,10 +24,11 @@ pub record HasTopBits (k : Kind) (w : Width) (n : ℕ) : Type 0 where
 
 -- the most steps that a fix-up takes from the start
 abbrev pub ceiling : Kind → Width → ℕ
-ceiling k u8 = 0
+ceiling square u8 = 15
 ceiling square u16 = 3
 ceiling square u32 = 2
 ceiling square u64 = 2
+ceiling cube u8 = 6
 ceiling cube u16 = 3
 ceiling cube u32 = 3
 ceiling cube u64 = 6

@@ -18,8 +18,8 @@ row k w n root rest start steps = record { kind = k; width = w; value = n; root 
 
 unfoldable pub rows : List Row
 rows =
-    row square u8 255 15 30 15 0 ∷
-    row cube u8 255 6 39 6 0 ∷
+    row square u8 255 15 30 0 15 ∷
+    row cube u8 255 6 39 0 6 ∷
     row square u16 16900 130 0 127 3 ∷
     row square u16 65535 255 510 255 0 ∷
     row cube u16 32768 32 0 29 3 ∷

@@ -2,7 +2,6 @@
 -- All divisions round down.
 use Prim.Native.Nat.{ℕ}
 use Rattle.defs.specs.Kinds.{Kind, square, cube, Width, u8, u16, u32, u64}
-use Rattle.defs.specs.Roots.{rootOf}
 pub mod Letters
 pub mod Square16
 pub mod Cube16
@@ -11,9 +10,9 @@ pub mod Cube32
 pub mod Square64
 pub mod Cube64
 
--- where the search of a u8 is said to start: at its root, so that it costs nothing. This is the u8 bill, and stands here alone
+-- the search of a u8 starts at 0, of either kind and whatever n is. This is the u8 bill, and stands here alone
 unfoldable pub start8 : Kind → ℕ → ℕ
-start8 k n = rootOf k n
+start8 k n = 0
 
 -- S by kind and width
 abbrev pub S : Kind → Width → ℕ → ℕ

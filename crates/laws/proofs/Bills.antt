@@ -2,11 +2,11 @@
 use mathlib.Core.Path.{_≡_, refl, sym, _∙_}
 use mathlib.Core.Bool.{Bool, true, false}
 use mathlib.Core.Logic.{_⊎_, inl, inr}
-use Prim.Native.Nat.{ℕ, _≤_, _<_}
+use Prim.Native.Nat.{ℕ, _≤_, _<_, zero-le}
 use native.Mathlib.Omega.{arith}
 use lib.Dec.{eqb}
 use borrow.Author.Tests.{le-leb, eq-eqb, ne-eqb, eqb-true, eqb-false}
-use Rattle.defs.specs.Kinds.{Kind, pow, Width, u8}
+use Rattle.defs.specs.Kinds.{Kind, square, cube, pow, Width, u8}
 use Rattle.defs.specs.Roots.{RootRem, rootOf}
 use Rattle.defs.specs.Starts.{S, start8}
 use Rattle.defs.specs.Cells.{bound, startOf, stepsOf, raised, fullStart, fullSteps}
@@ -72,27 +72,28 @@ full-raised k w {n} p answer started stepped = record {
   is-steps = rw (ne-eqb n 0 p) stepped;
 }
 
--- the u8 bill: a search from 0 answers with its root for a start, and no steps
-started-8 : (k : Kind) (n : ℕ) → startOf k u8 n ≡ rootOf k n
+-- the u8 bill: a search from 0 starts at S, and answers with the steps that it took
+starts-8 : (k : Kind) (n : ℕ) → Starts k u8 n 0
 unfolding start8
-started-8 k n = not-lowered k u8 n (root-is k n .fits)
+starts-8 square n = record { is-S = refl; fits = zero-le }
+starts-8 cube n = record { is-S = refl; fits = zero-le }
 
-stepped-8 : (k : Kind) (n : ℕ) → stepsOf k u8 n ≡ 0
-unfolding stepsOf
-stepped-8 k n = omega (arith, started-8 k n)
-
-pub billed-8 : (k : Kind) {n root rest steps : ℕ} → Fixed k n 0 root rest steps → Full k u8 n root rest root 0
-billed-8 k {n} {root} {rest} f = by-test (eqb n 0) refl
+searched-8 : (k : Kind) {n root rest steps : ℕ} → Fixed k n 0 root rest steps → Full k u8 n root rest 0 steps
+searched-8 k {n} {root} {rest} {steps} f = by-test (eqb n 0) refl
   where
-    by-test : (t : Bool) → eqb n 0 ≡ t → Full k u8 n root rest root 0
+    by-test : (t : Bool) → eqb n 0 ≡ t → Full k u8 n root rest 0 steps
     by-test true e =
         let z = full-zero k u8 (eqb-true n 0 e) in
         record {
           root-rem = f .root-rem;
-          is-start = one-answer k (f .root-rem) (z .root-rem) .0 ∙ z .is-start;
-          is-steps = z .is-steps;
+          is-start = z .is-start;
+          is-steps = omega (arith, f .counted, one-answer k (f .root-rem) (z .root-rem) .0, z .is-steps);
         }
     by-test false e =
-        full-raised k u8 (eqb-false n 0 e) (f .root-rem)
-        (rw (raised-8 k n, started-8 k n) (one-root k (f .root-rem .is-root) (root-is k n)))
-        (rw (raised-8 k n, stepped-8 k n))
+        let bill = billed k u8 (starts-8 k n) f in
+        full-raised k u8 (eqb-false n 0 e) (f .root-rem) (rw (raised-8 k n) (bill .0)) (rw (raised-8 k n) (bill .1))
+
+-- an answer that says what the search found
+pub billed-8 : (k : Kind) {n a b c root rest start steps : ℕ} → root ≡ a → rest ≡ b → start ≡ 0 → steps ≡ c →
+    Fixed k n 0 a b c → Full k u8 n root rest start steps
+billed-8 k p q r s f = rw (p, q, r, s) (searched-8 k f)

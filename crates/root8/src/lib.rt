@@ -21,15 +21,15 @@ pub struct RootRem8 {
     pub steps: u8,
 }
 
-// The bill of a u8 root, of either kind: it starts at its root and costs nothing.
+// The bill of a u8 root, of either kind: the search starts at 0, and each step to the root counts.
 fn billed8(f: Fixed8) -> RootRem8
     ensures { λ r. ⌜ ((k : Kind) (n : ℕ) → Fixed k n 0 (f .root) (f .rest) (f .steps) → Full k u8 n (r .root) (r .rest) (r .start) (r .steps)) ⌝ }
 {
     RootRem8 {
         root: f.root,
         rest: f.rest,
-        start: f.root,
-        steps: 0,
+        start: 0,
+        steps: f.steps,
     }
 }
 

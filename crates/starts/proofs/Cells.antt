@@ -1,7 +1,7 @@
 -- Demand 3 at every cell: S is never above the root and never lowered, and each ceiling holds and is reached. Assumes nothing.
 use mathlib.Core.Path.{_≡_, refl}
-use Prim.Native.Nat.{ℕ}
-use native.Mathlib.Nat.{add-zero}
+use Prim.Native.Nat.{ℕ, _^_, _<_, zero-le}
+use native.Mathlib.Omega.{arith}
 use lib.Dec.{lit≤, lit<}
 use Rattle.defs.specs.Kinds.{Kind, square, cube, Width, u8, u16, u32, u64}
 use Rattle.defs.specs.Roots.{rootOf, rootWithin}
@@ -14,7 +14,7 @@ use Rattle.defs.specs.Starts.Cube32 as cb32
 use Rattle.defs.specs.Starts.Square64 as sq64
 use Rattle.defs.specs.Starts.Cube64 as cb64
 use Rattle.defs.specs.Cells.{HasTopBits, ceiling, startOf, stepsOf}
-use Rattle.laws.proofs.Roots.{root-is, root-above}
+use Rattle.laws.proofs.Roots.{root-is}
 use Rattle.laws.proofs.Bills.{not-lowered}
 use Rattle.starts.specs.Near.{Near}
 use Rattle.starts.specs.Cell.{witness, Cell}
@@ -25,13 +25,14 @@ use Rattle.starts.proofs.Cube32
 use Rattle.starts.proofs.Square64
 use Rattle.starts.proofs.Cube64
 
--- a u8 starts at its root
-near8 : (k : Kind) (n : ℕ) → Near k 0 n (start8 k n)
+-- a u8 starts at 0, and the power of the ceiling plus one is above every u8
+near8 : (k : Kind) (n : ℕ) → n < 2 ^ 8 → Near k (ceiling k u8) n (start8 k n)
 unfolding start8
-near8 k n = record { low = root-is k n .fits; high = rw add-zero (root-above k (root-is k n)) }
+near8 square n h = record { low = zero-le; high = h }
+near8 cube n h = record { low = zero-le; high = omega arith }
 
 near : (k : Kind) (w : Width) (n : ℕ) → HasTopBits k w n → Near k (ceiling k w) n (S k w n)
-near k u8 n h = near8 k n
+near k u8 n h = near8 k n (h .in-width)
 near square u16 n h = Square16.near n (h .from-bound) (h .in-width)
 near square u32 n h = Square32.near n (h .from-bound) (h .in-width)
 near square u64 n h = Square64.near n (h .from-bound) (h .in-width)

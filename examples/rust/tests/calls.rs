@@ -21,7 +21,8 @@ fn start_and_steps() {
     assert_eq!(parts(cbrt_rem(9223372036854775808u64)), (2097152, 0, 2097147, 5));
     assert_eq!(parts(cbrt_rem(10376279628611328125u64)), (2181125, 0, 2181119, 6));
     assert_eq!(parts(sqrt_rem(0u64)), (0, 0, 0, 0));
-    assert_eq!(parts(sqrt_rem(200u8)), (14, 4, 14, 0));
+    assert_eq!(parts(sqrt_rem(255u8)), (15, 30, 0, 15));
+    assert_eq!(parts(cbrt_rem(255u8)), (6, 39, 0, 6));
 }
 
 #[test]
