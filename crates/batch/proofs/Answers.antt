@@ -8,36 +8,36 @@ use native.Mathlib.Omega.{arith}
 use lib.ListN.{length, take, drop, take-append-drop, length-take, length-drop}
 use lib.Seq.{drop-append-le, drop-drop}
 use borrow.Author.Tests.{lt-ltb, le-ltb, eq-eqb, ne_eqb}
-use Rattle.defs.specs.Refusals.{noRefusal, firstBeyond, countBeyond, lengthsDiffer}
-use Rattle.batch.specs.Batch.{part, refusalOf, NothingDone, Ran, Batched}
-use Rattle.batch.proofs.Largest.{one-largest}
+use Rattle.defs.specs.Refusals.{no_refusal, first_beyond, count_beyond, lengths_differ}
+use Rattle.batch.specs.Batch.{part, refusal_of, NothingDone, Ran, Batched}
+use Rattle.batch.proofs.Largest.{one_largest}
 
 -- the refusal by what its tests found
 module _ (first count values roots : ℕ) where
-  pub first-beyond : values < first → refusalOf first count values roots ≡ firstBeyond
-  unfolding refusalOf
-  first-beyond h = rw (lt-ltb values first h)
+  pub first_beyond_lem : values < first → refusal_of first count values roots ≡ first_beyond
+  unfolding refusal_of
+  first_beyond_lem h = rw (lt-ltb values first h)
 
-  pub count-beyond : first ≤ values → values - first < count → refusalOf first count values roots ≡ countBeyond
-  unfolding refusalOf
-  count-beyond h g = rw (le-ltb values first h, lt-ltb (values - first) count g)
+  pub count_beyond_lem : first ≤ values → values - first < count → refusal_of first count values roots ≡ count_beyond
+  unfolding refusal_of
+  count_beyond_lem h g = rw (le-ltb values first h, lt-ltb (values - first) count g)
 
-  pub lengths_differ : first ≤ values → count ≤ values - first → (values ≡ roots → ⊥) → refusalOf first count values roots ≡ lengthsDiffer
-  unfolding refusalOf
-  lengths_differ h g d = rw (le-ltb values first h, le-ltb (values - first) count g, ne_eqb values roots d)
+  pub lengths_differ_lem : first ≤ values → count ≤ values - first → (values ≡ roots → ⊥) → refusal_of first count values roots ≡ lengths_differ
+  unfolding refusal_of
+  lengths_differ_lem h g d = rw (le-ltb values first h, le-ltb (values - first) count g, ne_eqb values roots d)
 
-  none-refused : first ≤ values → count ≤ values - first → values ≡ roots → refusalOf first count values roots ≡ noRefusal
-  unfolding refusalOf
-  none-refused h g s = rw (le-ltb values first h, le-ltb (values - first) count g, eq-eqb values roots s)
+  none_refused : first ≤ values → count ≤ values - first → values ≡ roots → refusal_of first count values roots ≡ no_refusal
+  unfolding refusal_of
+  none_refused h g s = rw (le-ltb values first h, le-ltb (values - first) count g, eq-eqb values roots s)
 
 -- a call that returns a refusal's number and zeros, with nothing written
-pub refuses : {values before : List ℕ} {first count budget number refusal done spent : ℕ} → (number ≡ noRefusal → ⊥) →
-    refusalOf first count (length values) (length before) ≡ number → (refusal ≡ number) × (done ≡ 0) × (spent ≡ 0) →
+pub refuses : {values before : List ℕ} {first count budget number refusal done spent : ℕ} → (number ≡ no_refusal → ⊥) →
+    refusal_of first count (length values) (length before) ≡ number → (refusal ≡ number) × (done ≡ 0) × (spent ≡ 0) →
     Batched values before first count budget refusal done spent before
 refuses some found said = record {
-  is-refusal = said.0 ∙ sym found;
-  if-refused = λ refused. record { none_done = said.1; none-spent = said.2; unchanged = refl };
-  if-answered = λ none. absurd (some (sym said.0 ∙ none));
+  is_refusal = said.0 ∙ sym found;
+  if_refused = λ refused. record { none_done = said.1; none_spent = said.2; unchanged = refl };
+  if_answered = λ none. absurd (some (sym said.0 ∙ none));
 }
 
 -- a part that lies within the list has as many values as it says
@@ -52,48 +52,48 @@ put_back first count done before roots h =
     rw (zero-add, append_assoc, ← (drop-append-le done (take count l) (drop count l) h), take-append-drop, drop-drop)
 
 -- a call that passes every test, lends the two parts to a run, and returns what the run did
-pub answers : {values before middle : List ℕ} {first count budget refusal done spent ran-done ran-spent : ℕ} → first ≤ length values →
+pub answers : {values before middle : List ℕ} {first count budget refusal done spent ran_done ran_spent : ℕ} → first ≤ length values →
     count ≤ length values - first → length values ≡ length before →
-    Ran (part first count values) (part first count before) 0 budget ran-done ran-spent middle →
-    (refusal ≡ noRefusal) × (done ≡ ran-done) × (spent ≡ ran-spent) →
+    Ran (part first count values) (part first count before) 0 budget ran_done ran_spent middle →
+    (refusal ≡ no_refusal) × (done ≡ ran_done) × (spent ≡ ran_spent) →
     Batched values before first count budget refusal done spent (take first before ++ (middle ++ drop count (drop first before)))
-answers {values} {before} {first = first} {count = count} {ran-done = ran-done} h g same ran said =
-    let within : ran-done ≤ length (part first count before) =
-    omega (arith, ran.is-done.affords.within, part_length first count values h g, part_length first count before (omega arith) (omega arith)) in
+answers {values} {before} {first = first} {count = count} {ran_done = ran_done} h g same ran said =
+    let within : ran_done ≤ length (part first count before) =
+    omega (arith, ran.is_done.affords.within, part_length first count values h g, part_length first count before (omega arith) (omega arith)) in
     rw (said.0, said.1, said.2) (record {
-      is-refusal = sym (none-refused first count (length values) (length before) h g same);
-      if-refused = λ some. absurd (some refl);
-      if-answered = λ none. record {
-        is-done = ran.is-done;
-        is-spent = ran.is-spent;
-        in-budget = ran.in-budget;
-        is-after = rw (ran.is-after, put_back first count ran-done before _ within);
+      is_refusal = sym (none_refused first count (length values) (length before) h g same);
+      if_refused = λ some. absurd (some refl);
+      if_answered = λ none. record {
+        is_done = ran.is_done;
+        is_spent = ran.is_spent;
+        in_budget = ran.in_budget;
+        is_after = rw (ran.is_after, put_back first count ran_done before _ within);
       };
     })
 
 -- a number is that of no refusal, or of one
-pub refused-or-not : (refusal : ℕ) → (refusal ≡ noRefusal) ⊎ (refusal ≡ noRefusal → ⊥)
-refused-or-not zero = inl refl
-refused-or-not (suc number) = inr (λ none. omega arith)
+pub refused_or_not : (refusal : ℕ) → (refusal ≡ no_refusal) ⊎ (refusal ≡ no_refusal → ⊥)
+refused_or_not zero = inl refl
+refused_or_not (suc number) = inr (λ none. omega arith)
 
 -- no second answer fits a run, nor a refusal
-one-ran : {values before after after' : List ℕ} {first budget done spent done' spent' : ℕ} →
+one_ran : {values before after after' : List ℕ} {first budget done spent done' spent' : ℕ} →
     Ran values before first budget done spent after → Ran values before first budget done' spent' after' →
     (done ≡ done') × (spent ≡ spent') × (after ≡ after')
-one-ran x y =
-    let same = one-largest x.is-done y.is-done in
+one_ran x y =
+    let same = one_largest x.is_done y.is_done in
     (same, (cc), (cc))
 
-one-refused : {before after after' : List ℕ} {done spent done' spent' : ℕ} → NothingDone before done spent after → NothingDone before done' spent' after' →
+one_refused : {before after after' : List ℕ} {done spent done' spent' : ℕ} → NothingDone before done spent after → NothingDone before done' spent' after' →
     (done ≡ done') × (spent ≡ spent') × (after ≡ after')
-one-refused x y = ((cc), (cc), (cc))
+one_refused x y = ((cc), (cc), (cc))
 
 -- no second answer, and no second list of roots, fits a batch
 pub one_batch : {values before after after' : List ℕ} {first count budget refusal done spent refusal' done' spent' : ℕ} →
     Batched values before first count budget refusal done spent after → Batched values before first count budget refusal' done' spent' after' →
     (refusal ≡ refusal') × (done ≡ done') × (spent ≡ spent') × (after ≡ after')
 one_batch {refusal = refusal} {refusal' = refusal'} x y =
-    let same : refusal ≡ refusal' = x.is-refusal ∙ sym y.is-refusal in
-    let rest = ⊎_elim (λ none. one-ran (x.if-answered none) (y.if-answered (sym same ∙ none))) (λ some.
-    one-refused (x.if-refused some) (y.if-refused (λ none. some (same ∙ none)))) (refused-or-not refusal) in
+    let same : refusal ≡ refusal' = x.is_refusal ∙ sym y.is_refusal in
+    let rest = ⊎_elim (λ none. one_ran (x.if_answered none) (y.if_answered (sym same ∙ none))) (λ some.
+    one_refused (x.if_refused some) (y.if_refused (λ none. some (same ∙ none)))) (refused_or_not refusal) in
     (same, rest.0, rest.1, rest.2)

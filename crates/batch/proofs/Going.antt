@@ -7,23 +7,23 @@ use native.Mathlib.Numerals.{add-one}
 use native.Mathlib.Omega.{arith}
 use lib.ListN.{length, take, drop, get_or, set, length-set}
 use Rattle.defs.specs.Kinds.{square, u32}
-use Rattle.defs.specs.Roots.{rootOf}
+use Rattle.defs.specs.Roots.{root_of}
 use Rattle.defs.specs.Answers.{Full}
-use Rattle.laws.proofs.Roots.{one-root, root_is}
-use Rattle.batch.specs.Batch.{costOf, costs, Ran}
-use Rattle.batch.proofs.Costs.{costs-next}
+use Rattle.laws.proofs.Roots.{one_root, root_is}
+use Rattle.batch.specs.Batch.{cost_of, costs, Ran}
+use Rattle.batch.proofs.Costs.{costs_next}
 use Rattle.batch.proofs.Largest.{stops}
 
 -- where a run stands: `done` values are paid for, and their roots stand in the first places
 pub record Going (values before : List ℕ) (budget : ℕ) (roots : List ℕ) (done spent : ℕ) : Type 0 where
   pub within : done ≤ length values
-  pub is-spent : spent ≡ costs (take done values)
-  pub in-budget : spent ≤ budget
-  pub is-roots : roots ≡ map (rootOf square) (take done values) ++ drop done before
+  pub is_spent : spent ≡ costs (take done values)
+  pub in_budget : spent ≤ budget
+  pub is_roots : roots ≡ map (root_of square) (take done values) ++ drop done before
   pub same_length : length roots ≡ length before
 
 pub begins : {values before : List ℕ} {budget : ℕ} → Going values before budget before 0 0
-begins = record { within = zero-le; is-spent = refl; in-budget = zero-le; is-roots = refl; same_length = refl }
+begins = record { within = zero-le; is_spent = refl; in_budget = zero-le; is_roots = refl; same_length = refl }
 
 -- a root stored in the next place
 stored : (f : ℕ → ℕ) (l before : List ℕ) (k : ℕ) → k < length l → k < length before →
@@ -38,22 +38,22 @@ pub goes_on : {values before roots : List ℕ} {budget done spent root rest star
     Going values before budget roots done spent → done < length values → Full square u32 (get_or values done 0) root rest start steps →
     spent + steps ≤ budget → Going values before budget (set roots done root) (done + 1) (spent + steps)
 goes_on {values} {before} {roots} {budget} {done} {spent} {root} {rest} {start} {steps} same at more answer fits =
-    let is-root : root ≡ rootOf square (get_or values done 0) = one-root square answer.root-rem.is-root (root_is square (get_or values done 0)) in
+    let is_root : root ≡ root_of square (get_or values done 0) = one_root square answer.root_rem.is_root (root_is square (get_or values done 0)) in
     rw add-one (record {
       within = more;
-      is-spent = omega (arith, costs-next values done more, at.is-spent, answer.is-steps);
-      in-budget = fits;
-      is-roots = rw (at.is-roots, is-root) (stored (rootOf square) values before done more (omega arith));
+      is_spent = omega (arith, costs_next values done more, at.is_spent, answer.is_steps);
+      in_budget = fits;
+      is_roots = rw (at.is_roots, is_root) (stored (root_of square) values before done more (omega arith));
       same_length = length-set roots done root ∙ at.same_length;
     })
 
 -- no value is left, or the next would pass the budget: that is the promise
 pub ends : {values before roots : List ℕ} {budget done spent : ℕ} → Going values before budget roots done spent →
-    (done < length values → budget < spent + costOf (get_or values done 0)) → Ran values before 0 budget done spent roots
+    (done < length values → budget < spent + cost_of (get_or values done 0)) → Ran values before 0 budget done spent roots
 ends {values} {before} {roots} {budget} {done} {spent} at next = record {
-  is-done = stops (record { within = at.within; in-budget = omega (arith, at.is-spent, at.in-budget) }) (λ more.
-      omega (arith, costs-next values done more, next more, at.is-spent));
-  is-spent = at.is-spent;
-  in-budget = at.in-budget;
-  is-after = rw zero-add at.is-roots;
+  is_done = stops (record { within = at.within; in_budget = omega (arith, at.is_spent, at.in_budget) }) (λ more.
+      omega (arith, costs_next values done more, next more, at.is_spent));
+  is_spent = at.is_spent;
+  in_budget = at.in_budget;
+  is_after = rw zero-add at.is_roots;
 }

@@ -27,8 +27,8 @@ bits_of u32 = 32
 bits_of u64 = 64
 
 -- how many bits the type of its root has: u8, u8, u16, u32
-abbrev pub rootBits : Width → ℕ
-rootBits u8 = 8
-rootBits u16 = 8
-rootBits u32 = 16
-rootBits u64 = 32
+abbrev pub root_bits : Width → ℕ
+root_bits u8 = 8
+root_bits u16 = 8
+root_bits u32 = 16
+root_bits u64 = 32

@@ -9,21 +9,21 @@ pub record IsRoot (k : Kind) (n a : ℕ) : Type 0 where
 
 -- root and rest of n: the rest is what the root's power leaves of n
 pub record RootRem (k : Kind) (n root rest : ℕ) : Type 0 where
-  pub is-root : IsRoot k n root
-  pub is-rest : rest ≡ n - pow k root
+  pub is_root : IsRoot k n root
+  pub is_rest : rest ≡ n - pow k root
 
 -- the root as a number that computes: twice the root of n / 2^degree, or one more where that still fits.
 -- That it is the root of every n is the theorem `root_is` of the crate laws
-abbrev pub oneMore : Kind → ℕ → ℕ → ℕ
-oneMore k n a = cond (leb (pow k (a + 1)) n) (a + 1) a
+abbrev pub one_more : Kind → ℕ → ℕ → ℕ
+one_more k n a = cond (leb (pow k (a + 1)) n) (a + 1) a
 
-unfoldable pub rootWithin : Kind → ℕ → ℕ → ℕ
-rootWithin k zero n = 0
-rootWithin k (suc fuel) n = elim (eqb n 0) [ true ↦ 0 | false ↦ oneMore k n (2 * rootWithin k fuel (n / 2 ^ degree k)) ]
+unfoldable pub root_within : Kind → ℕ → ℕ → ℕ
+root_within k zero n = 0
+root_within k (suc fuel) n = elim (eqb n 0) [ true ↦ 0 | false ↦ one_more k n (2 * root_within k fuel (n / 2 ^ degree k)) ]
 
-unfoldable pub rootOf : Kind → ℕ → ℕ
-rootOf k n = rootWithin k n n
+unfoldable pub root_of : Kind → ℕ → ℕ
+root_of k n = root_within k n n
 
 -- the rest as a number
 unfoldable pub rest_of : Kind → ℕ → ℕ
-rest_of k n = n - pow k (rootOf k n)
+rest_of k n = n - pow k (root_of k n)

@@ -15,11 +15,11 @@ unfoldable pub start8 : Kind → ℕ → ℕ
 start8 k n = 0
 
 -- S by kind and width
-abbrev pub S : Kind → Width → ℕ → ℕ
-S k u8 n = start8 k n
-S square u16 n = Square16.S n
-S cube u16 n = Cube16.S n
-S square u32 n = Square32.S n
-S cube u32 n = Cube32.S n
-S square u64 n = Square64.S n
-S cube u64 n = Cube64.S n
+abbrev pub cell_start : Kind → Width → ℕ → ℕ
+cell_start k u8 n = start8 k n
+cell_start square u16 n = Square16.cell_start n
+cell_start cube u16 n = Cube16.cell_start n
+cell_start square u32 n = Square32.cell_start n
+cell_start cube u32 n = Cube32.cell_start n
+cell_start square u64 n = Square64.cell_start n
+cell_start cube u64 n = Cube64.cell_start n

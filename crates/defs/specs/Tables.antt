@@ -3,8 +3,8 @@ use Rattle.std.specs.Prelude.{List, [], ◌∷◌, ℕ, ◌+◌, ◌*◌, ◌^�
 use Rattle.defs.specs.Kinds.{Kind, square, cube, pow}
 
 -- `RSQRT_TAB`
-unfoldable pub rsqrtTab : List ℕ
-rsqrtTab =
+unfoldable pub rsqrt_tab : List ℕ
+rsqrt_tab =
     252 ∷ 244 ∷ 237 ∷ 230 ∷ 223 ∷ 217 ∷ 211 ∷ 205 ∷ 199 ∷ 194 ∷ 188 ∷ 183 ∷ 178 ∷ 173 ∷ 169 ∷ 164 ∷
     160 ∷ 156 ∷ 152 ∷ 148 ∷ 144 ∷ 140 ∷ 136 ∷ 133 ∷ 129 ∷ 126 ∷ 123 ∷ 119 ∷ 116 ∷ 113 ∷ 110 ∷ 107 ∷
     105 ∷ 102 ∷ 99 ∷ 97 ∷ 94 ∷ 91 ∷ 89 ∷ 87 ∷ 84 ∷ 82 ∷ 80 ∷ 77 ∷ 75 ∷ 73 ∷ 71 ∷ 69 ∷
@@ -13,8 +13,8 @@ rsqrtTab =
     17 ∷ 16 ∷ 15 ∷ 13 ∷ 12 ∷ 11 ∷ 10 ∷ 9 ∷ 8 ∷ 7 ∷ 6 ∷ 5 ∷ 4 ∷ 3 ∷ 2 ∷ 1 ∷ []
 
 -- `RCBRT_TAB`
-unfoldable pub rcbrtTab : List ℕ
-rcbrtTab =
+unfoldable pub rcbrt_tab : List ℕ
+rcbrt_tab =
     246 ∷ 228 ∷ 212 ∷ 198 ∷ 185 ∷ 174 ∷ 164 ∷ 155 ∷ 146 ∷ 138 ∷ 131 ∷ 124 ∷ 118 ∷ 112 ∷ 107 ∷ 102 ∷
     97 ∷ 92 ∷ 87 ∷ 83 ∷ 79 ∷ 75 ∷ 72 ∷ 68 ∷ 65 ∷ 62 ∷ 59 ∷ 56 ∷ 53 ∷ 50 ∷ 47 ∷ 45 ∷
     42 ∷ 40 ∷ 37 ∷ 35 ∷ 33 ∷ 31 ∷ 29 ∷ 27 ∷ 25 ∷ 23 ∷ 21 ∷ 19 ∷ 17 ∷ 16 ∷ 14 ∷ 12 ∷
@@ -22,8 +22,8 @@ rcbrtTab =
 
 -- the table of a kind
 abbrev pub table_of : Kind → List ℕ
-table_of square = rsqrtTab
-table_of cube = rcbrtTab
+table_of square = rsqrt_tab
+table_of cube = rcbrt_tab
 
 -- T[i] and U[i], and 0 past the table's end
 abbrev pub entry : Kind → ℕ → ℕ

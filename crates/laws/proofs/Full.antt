@@ -7,25 +7,25 @@ use Rattle.defs.specs.Roots.{IsRoot}
 use Rattle.defs.specs.Cells.{HasTopBits, bound, raised}
 use Rattle.defs.specs.Answers.{Full}
 use Rattle.defs.specs.Parts.{Shifts, Starts, Fixed}
-use Rattle.laws.proofs.Bills.{billed, full-raised}
-use Rattle.laws.proofs.Shift.{Wide, raises, root-shifted-back, top-positive, unraised}
+use Rattle.laws.proofs.Bills.{billed, full_raised}
+use Rattle.laws.proofs.Shift.{Wide, raises, root_shifted_back, top_positive, unraised}
 
 -- a value that is not 0 is none
-not-zero : {n : ℕ} → 0 < n → n ≡ 0 → ⊥
-not-zero p e = lt_irrefl 0 (rw e at p)
+not_zero : {n : ℕ} → 0 < n → n ≡ 0 → ⊥
+not_zero p e = lt_irrefl 0 (rw e at p)
 
 -- a value with its top bits answers what its own fix-up gives
-pub own-answer : (k : Kind) (w : Width) → Wide w → {n start root rest steps : ℕ} → bound k w ≤ n → n < 2 ^ bits_of w →
+pub own_answer : (k : Kind) (w : Width) → Wide w → {n start root rest steps : ℕ} → bound k w ≤ n → n < 2 ^ bits_of w →
     Starts k w n start → Fixed k n start root rest steps → Full k w n root rest start steps
-own-answer k w v {n} b h s f =
-    let same = unraised k w v (record { from-bound = b; in-width = h }) in
+own_answer k w v {n} b h s f =
+    let same = unraised k w v (record { from_bound = b; in_width = h }) in
     let bill = billed k w s f in
-    full-raised k w (not-zero (top-positive k w v b)) f.root-rem (rw same bill.0) (rw same bill.1)
+    full_raised k w (not_zero (top_positive k w v b)) f.root_rem (rw same bill.0) (rw same bill.1)
 
 -- any other value that is not 0 has its root by shifting back
 module _ (k : Kind) (w : Width) (v : Wide w) {n shift back : ℕ} (p : 0 < n) (h : n < 2 ^ bits_of w) (s : Shifts k w n shift back) where
-  pub root-back-of : {top root : ℕ} → IsRoot k ((n * 2 ^ shift) % 2 ^ bits_of w) top → root ≡ top / 2 ^ back → IsRoot k n root
-  root-back-of r e = rw (e, s.is-back, s.is-shift) (root-shifted-back k w (rw (raises k w v p h s) at r))
+  pub root_back_of : {top root : ℕ} → IsRoot k ((n * 2 ^ shift) % 2 ^ bits_of w) top → root ≡ top / 2 ^ back → IsRoot k n root
+  root_back_of r e = rw (e, s.is_back, s.is_shift) (root_shifted_back k w (rw (raises k w v p h s) at r))
 
   -- and its rest worked out anew
   pub answer_back : {start top left steps root rest : ℕ} → Starts k w ((n * 2 ^ shift) % 2 ^ bits_of w) start →
@@ -33,4 +33,4 @@ module _ (k : Kind) (w : Width) (v : Wide w) {n shift back : ℕ} (p : 0 < n) (h
       Full k w n root rest start steps
   answer_back t f e anew =
       let bill = rw (raises k w v p h s) at (billed k w t f) in
-      full-raised k w (not-zero p) (record { is-root = root-back-of f.root-rem.is-root e; is-rest = anew }) bill.0 bill.1
+      full_raised k w (not_zero p) (record { is_root = root_back_of f.root_rem.is_root e; is_rest = anew }) bill.0 bill.1

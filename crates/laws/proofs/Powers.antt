@@ -10,12 +10,12 @@ use borrow.Author.Tests.{leb-true, leb-false}
 use Rattle.defs.specs.Kinds.{Kind, square, cube, pow}
 
 -- either way round: a test that goes by cases
-pub le-or-lt : (a b : ℕ) → (a ≤ b) ⊎ (b < a)
-le-or-lt a b = by-test (leb a b) refl
+pub le_or_lt : (a b : ℕ) → (a ≤ b) ⊎ (b < a)
+le_or_lt a b = by_test (leb a b) refl
   where
-    by-test : (t : Bool) → leb a b ≡ t → (a ≤ b) ⊎ (b < a)
-    by-test true e = inl (leb-true a b e)
-    by-test false e = inr (leb-false a b e)
+    by_test : (t : Bool) → leb a b ≡ t → (a ≤ b) ⊎ (b < a)
+    by_test true e = inl (leb-true a b e)
+    by_test false e = inr (leb-false a b e)
 
 -- from the power of s to that of s + 1: the next odd number, or the next difference of cubes
 abbrev pub gap : Kind → ℕ → ℕ
@@ -35,16 +35,16 @@ pub below : (k : Kind) (a b : ℕ) → pow k a < pow k b → a < b
 below k a b h = lt_of_not-le (λ (g : b ≤ a). lt_irrefl (pow k a) (lt_of_lt_of_le h (rises k g)))
 
 -- a square is at most the power
-pub square-most : (k : Kind) (s : ℕ) → s * s ≤ pow k s
-square-most square s = le_refl (s * s)
-square-most cube zero = zero-le
-square-most cube (suc s) = le-mul_of_pos_right (suc s * suc s) (zero-lt-suc s)
+pub square_most : (k : Kind) (s : ℕ) → s * s ≤ pow k s
+square_most square s = le_refl (s * s)
+square_most cube zero = zero-le
+square_most cube (suc s) = le-mul_of_pos_right (suc s * suc s) (zero-lt-suc s)
 
 -- the power of a product, and of what is not 0
-pub pow-product : (k : Kind) (a b : ℕ) → pow k (a * b) ≡ pow k a * pow k b
-pow-product square a b = omega arith
-pow-product cube a b = omega arith
+pub pow_product : (k : Kind) (a b : ℕ) → pow k (a * b) ≡ pow k a * pow k b
+pow_product square a b = omega arith
+pow_product cube a b = omega arith
 
-pub pow-positive : (k : Kind) {d : ℕ} → 0 < d → 0 < pow k d
-pow-positive square h = mul-pos h h
-pow-positive cube h = mul-pos (mul-pos h h) h
+pub pow_positive : (k : Kind) {d : ℕ} → 0 < d → 0 < pow k d
+pow_positive square h = mul-pos h h
+pow_positive cube h = mul-pos (mul-pos h h) h

@@ -7,29 +7,29 @@ use native.Mathlib.Omega.{arith}
 use lib.Dec.{lit≤, lit<}
 use lib.Count.{count_leading_zeros, leading_top}
 use lib.Pow.{pow_pos, pow-add, pow_mono, shl_lt}
-use Rattle.defs.specs.Kinds.{Kind, square, cube, Width, u8, u16, u32, u64, pow, degree, bits_of, rootBits}
+use Rattle.defs.specs.Kinds.{Kind, square, cube, Width, u8, u16, u32, u64, pow, degree, bits_of, root_bits}
 use Rattle.defs.specs.Roots.{IsRoot}
 use Rattle.defs.specs.Cells.{HasTopBits, bound, lowered, shift_of, raised}
 use Rattle.defs.specs.Parts.{Shifts}
-use Rattle.laws.proofs.Powers.{le-or-lt, rises, pow-product, pow-positive}
-use Rattle.laws.proofs.Roots.{is-root, root-above}
+use Rattle.laws.proofs.Powers.{le_or_lt, rises, pow_product, pow_positive}
+use Rattle.laws.proofs.Roots.{is_root, root_above}
 
 -- the power of a power of two
-pow-two : (k : Kind) (j : ℕ) → pow k (2 ^ j) ≡ 2 ^ (degree k * j)
-pow-two square j = sym (pow-add 2 j j) ∙ ap (λ (m : ℕ). 2 ^ m) (omega arith)
-pow-two cube j = ap (λ (m : ℕ). m * 2 ^ j) (sym (pow-add 2 j j)) ∙ sym (pow-add 2 (j + j) j) ∙ ap (λ (m : ℕ). 2 ^ m) (omega arith)
+pow_two : (k : Kind) (j : ℕ) → pow k (2 ^ j) ≡ 2 ^ (degree k * j)
+pow_two square j = sym (pow-add 2 j j) ∙ ap (λ (m : ℕ). 2 ^ m) (omega arith)
+pow_two cube j = ap (λ (m : ℕ). m * 2 ^ j) (sym (pow-add 2 j j)) ∙ sym (pow-add 2 (j + j) j) ∙ ap (λ (m : ℕ). 2 ^ m) (omega arith)
 
 -- the root of n times the power of d, divided by d, is the root of n
-root-divided : (k : Kind) (n d a : ℕ) → 0 < d → IsRoot k (n * pow k d) a → IsRoot k n (a / d)
-root-divided k n d a pos r =
-    let low : pow k (a / d) * pow k d ≤ n * pow k d = rw (← (pow-product k (a / d) d)) (le_trans (rises k (div-mul-le_self a d)) r.fits) in
+root_divided : (k : Kind) (n d a : ℕ) → 0 < d → IsRoot k (n * pow k d) a → IsRoot k n (a / d)
+root_divided k n d a pos r =
+    let low : pow k (a / d) * pow k d ≤ n * pow k d = rw (← (pow_product k (a / d) d)) (le_trans (rises k (div-mul-le_self a d)) r.fits) in
     let next : a + 1 ≤ (a / d + 1) * d = omega (arith, lt-div-mul-add {a = a} {b = d} pos) in
-    let high : n * pow k d < pow k (a / d + 1) * pow k d = rw (← (pow-product k (a / d + 1) d)) (lt_of_lt_of_le (root-above k r) (rises k next)) in
-    is-root k (le_of_mul-le-mul_right low (pow-positive k pos)) (lt_of_mul-lt-mul_right (pow k d) high)
+    let high : n * pow k d < pow k (a / d + 1) * pow k d = rw (← (pow_product k (a / d + 1) d)) (lt_of_lt_of_le (root_above k r) (rises k next)) in
+    is_root k (le_of_mul-le-mul_right low (pow_positive k pos)) (lt_of_mul-lt-mul_right (pow k d) high)
 
-pub root-back : (k : Kind) (n j a : ℕ) → IsRoot k (n * 2 ^ (degree k * j)) a → IsRoot k n (a / 2 ^ j)
-root-back k n j a r =
-    root-divided k n (2 ^ j) a (pow_pos j) (rw (pow-two k j) r)
+pub root_back : (k : Kind) (n j a : ℕ) → IsRoot k (n * 2 ^ (degree k * j)) a → IsRoot k n (a / 2 ^ j)
+root_back k n j a r =
+    root_divided k n (2 ^ j) a (pow_pos j) (rw (pow_two k j) r)
 
 -- a value below 2^b that is not 0, shifted left by its leading zeros lowered to a multiple of d, has one of its top d bits set
 record Lifted (d b n s : ℕ) : Type 0 where
@@ -56,23 +56,23 @@ Wide u16 = Unit {0}
 Wide u32 = Unit {0}
 Wide u64 = Unit {0}
 
-degree-small : (k : Kind) → (0 < degree k) × (degree k ≤ 3)
-degree-small square = (lit< tt, lit≤ tt)
-degree-small cube = (lit< tt, lit≤ tt)
+degree_small : (k : Kind) → (0 < degree k) × (degree k ≤ 3)
+degree_small square = (lit< tt, lit≤ tt)
+degree_small cube = (lit< tt, lit≤ tt)
 
 lifted : (k : Kind) (w : Width) → Wide w → (n : ℕ) → 0 < n → n < 2 ^ bits_of w → Lifted (degree k) (bits_of w) n (shift_of k w n)
 unfolding shift_of
-lifted k u16 v n p h = lift (degree k) 16 n (degree-small k).0 (omega (arith, (degree-small k).1)) p h
-lifted k u32 v n p h = lift (degree k) 32 n (degree-small k).0 (omega (arith, (degree-small k).1)) p h
-lifted k u64 v n p h = lift (degree k) 64 n (degree-small k).0 (omega (arith, (degree-small k).1)) p h
+lifted k u16 v n p h = lift (degree k) 16 n (degree_small k).0 (omega (arith, (degree_small k).1)) p h
+lifted k u32 v n p h = lift (degree k) 32 n (degree_small k).0 (omega (arith, (degree_small k).1)) p h
+lifted k u64 v n p h = lift (degree k) 64 n (degree_small k).0 (omega (arith, (degree_small k).1)) p h
 
-bound-is : (k : Kind) (w : Width) → Wide w → 2 ^ (bits_of w - degree k) ≡ bound k w
-bound-is square u16 v = refl
-bound-is square u32 v = refl
-bound-is square u64 v = refl
-bound-is cube u16 v = refl
-bound-is cube u32 v = refl
-bound-is cube u64 v = refl
+bound_is : (k : Kind) (w : Width) → Wide w → 2 ^ (bits_of w - degree k) ≡ bound k w
+bound_is square u16 v = refl
+bound_is square u32 v = refl
+bound_is square u64 v = refl
+bound_is cube u16 v = refl
+bound_is cube u32 v = refl
+bound_is cube u64 v = refl
 
 -- the shift is a multiple of the degree, and taken off the root it stays within the root's bits
 multiple : (d m : ℕ) → 0 < d → d * (lowered d m / d) ≡ lowered d m
@@ -80,21 +80,21 @@ multiple d m pos =
     let l : lowered d m ≡ d * (m / d) = omega (arith, div-add-mod m d) in
     rw (l, mul-div_right (m / d) pos)
 
-shift-multiple : (k : Kind) (w : Width) (n : ℕ) → degree k * (shift_of k w n / degree k) ≡ shift_of k w n
+shift_multiple : (k : Kind) (w : Width) (n : ℕ) → degree k * (shift_of k w n / degree k) ≡ shift_of k w n
 unfolding shift_of
-shift-multiple square u8 n = refl
-shift-multiple cube u8 n = refl
-shift-multiple k u16 n = multiple (degree k) (count_leading_zeros 16 n) (degree-small k).0
-shift-multiple k u32 n = multiple (degree k) (count_leading_zeros 32 n) (degree-small k).0
-shift-multiple k u64 n = multiple (degree k) (count_leading_zeros 64 n) (degree-small k).0
+shift_multiple square u8 n = refl
+shift_multiple cube u8 n = refl
+shift_multiple k u16 n = multiple (degree k) (count_leading_zeros 16 n) (degree_small k).0
+shift_multiple k u32 n = multiple (degree k) (count_leading_zeros 32 n) (degree_small k).0
+shift_multiple k u64 n = multiple (degree k) (count_leading_zeros 64 n) (degree_small k).0
 
-half-of-bits : (k : Kind) (w : Width) (s : ℕ) → Wide w → s < bits_of w → s / degree k < rootBits w
-half-of-bits square u16 s v h = omega arith
-half-of-bits square u32 s v h = omega arith
-half-of-bits square u64 s v h = omega arith
-half-of-bits cube u16 s v h = omega arith
-half-of-bits cube u32 s v h = omega arith
-half-of-bits cube u64 s v h = omega arith
+half_of_bits : (k : Kind) (w : Width) (s : ℕ) → Wide w → s < bits_of w → s / degree k < root_bits w
+half_of_bits square u16 s v h = omega arith
+half_of_bits square u32 s v h = omega arith
+half_of_bits square u64 s v h = omega arith
+half_of_bits cube u16 s v h = omega arith
+half_of_bits cube u32 s v h = omega arith
+half_of_bits cube u64 s v h = omega arith
 
 -- what a full call knows once it has the shift of a value that is not 0
 pub shifts : (k : Kind) (w : Width) → Wide w → {n shift back : ℕ} → 0 < n → n < 2 ^ bits_of w → shift ≡ shift_of k w n →
@@ -102,45 +102,45 @@ pub shifts : (k : Kind) (w : Width) → Wide w → {n shift back : ℕ} → 0 < 
 shifts k w v {n} {shift} p h e b =
     let l = lifted k w v n p h in
     record {
-      is-shift = e;
-      is-back = b;
-      in-width = rw e l.short;
-      back-in-width = rw (b, e) (half-of-bits k w (shift_of k w n) v l.short);
-      to-bound = rw (e, mod-eq_of_lt l.kept, ← (bound-is k w v)) l.topped;
+      is_shift = e;
+      is_back = b;
+      in_width = rw e l.short;
+      back_in_width = rw (b, e) (half_of_bits k w (shift_of k w n) v l.short);
+      to_bound = rw (e, mod-eq_of_lt l.kept, ← (bound_is k w v)) l.topped;
     }
 
 -- the machine's shift is the value brought to its top bits: nothing is cut off
 pub raises : (k : Kind) (w : Width) → Wide w → {n shift back : ℕ} → 0 < n → n < 2 ^ bits_of w → Shifts k w n shift back →
     (n * 2 ^ shift) % 2 ^ bits_of w ≡ raised k w n
 unfolding raised
-raises k w v {n} p h s = rw s.is-shift (mod-eq_of_lt (lifted k w v n p h).kept)
+raises k w v {n} p h s = rw s.is_shift (mod-eq_of_lt (lifted k w v n p h).kept)
 
-lifted-top : (k : Kind) (w : Width) → Wide w → {n : ℕ} → 0 < n → n < 2 ^ bits_of w → HasTopBits k w (raised k w n)
+lifted_top : (k : Kind) (w : Width) → Wide w → {n : ℕ} → 0 < n → n < 2 ^ bits_of w → HasTopBits k w (raised k w n)
 unfolding raised
-lifted-top k w v {n} p h =
+lifted_top k w v {n} p h =
     let l = lifted k w v n p h in
-    record { from-bound = rw (← (bound-is k w v)) l.topped; in-width = l.kept }
+    record { from_bound = rw (← (bound_is k w v)) l.topped; in_width = l.kept }
 
 -- a u8 is not shifted
-pub raised-8 : (k : Kind) (n : ℕ) → raised k u8 n ≡ n
+pub raised_8 : (k : Kind) (n : ℕ) → raised k u8 n ≡ n
 unfolding raised shift_of
-raised-8 k n = mul-one n
+raised_8 k n = mul-one n
 
 -- at every width the value brought to its top bits is normalised
-pub raised-top : (k : Kind) (w : Width) {n : ℕ} → 0 < n → n < 2 ^ bits_of w → HasTopBits k w (raised k w n)
-raised-top k u8 {n} p h = rw (raised-8 k n) (record { from-bound = zero-le; in-width = h })
-raised-top k u16 p h = lifted-top k u16 tt p h
-raised-top k u32 p h = lifted-top k u32 tt p h
-raised-top k u64 p h = lifted-top k u64 tt p h
+pub raised_top : (k : Kind) (w : Width) {n : ℕ} → 0 < n → n < 2 ^ bits_of w → HasTopBits k w (raised k w n)
+raised_top k u8 {n} p h = rw (raised_8 k n) (record { from_bound = zero-le; in_width = h })
+raised_top k u16 p h = lifted_top k u16 tt p h
+raised_top k u32 p h = lifted_top k u32 tt p h
+raised_top k u64 p h = lifted_top k u64 tt p h
 
 -- the root of the value brought to its top bits, shifted back, is the value's root
-pub root-shifted-back : (k : Kind) (w : Width) {n a : ℕ} → IsRoot k (raised k w n) a → IsRoot k n (a / 2 ^ (shift_of k w n / degree k))
+pub root_shifted_back : (k : Kind) (w : Width) {n a : ℕ} → IsRoot k (raised k w n) a → IsRoot k n (a / 2 ^ (shift_of k w n / degree k))
 unfolding raised
-root-shifted-back k w {n} {a} r = root-back k n (shift_of k w n / degree k) a (rw (shift-multiple k w n) r)
+root_shifted_back k w {n} {a} r = root_back k n (shift_of k w n / degree k) a (rw (shift_multiple k w n) r)
 
 -- a value that has its top bits is not 0
-pub top-positive : (k : Kind) (w : Width) → Wide w → {n : ℕ} → bound k w ≤ n → 0 < n
-top-positive k w v h = lt_of_lt_of_le (pow_pos (bits_of w - degree k)) (rw (bound-is k w v) h)
+pub top_positive : (k : Kind) (w : Width) → Wide w → {n : ℕ} → bound k w ≤ n → 0 < n
+top_positive k w v h = lt_of_lt_of_le (pow_pos (bits_of w - degree k)) (rw (bound_is k w v) h)
 
 -- and is where its shift would bring it: one more step to the left would not fit the width
 no_step : (k : Kind) (s : ℕ) → s < degree k → degree k * (s / degree k) ≡ s → s ≡ 0
@@ -148,15 +148,15 @@ no_step square s h e = omega arith
 no_step cube s h e = omega arith
 
 unshifted : (k : Kind) (w : Width) → Wide w → {n : ℕ} → HasTopBits k w n → shift_of k w n ≡ 0
-unshifted k w v {n} h = by_size (le-or-lt (degree k) (shift_of k w n))
+unshifted k w v {n} h = by_size (le_or_lt (degree k) (shift_of k w n))
   where
     by_size : (degree k ≤ shift_of k w n) ⊎ (shift_of k w n < degree k) → shift_of k w n ≡ 0
     by_size (inl far) =
         let s : ℕ = shift_of k w n in
-        let low : 2 ^ (bits_of w - degree k) * 2 ^ s ≤ n * 2 ^ s = mul-le-mul_right (2 ^ s) (rw (bound-is k w v) h.from-bound) in
+        let low : 2 ^ (bits_of w - degree k) * 2 ^ s ≤ n * 2 ^ s = mul-le-mul_right (2 ^ s) (rw (bound_is k w v) h.from_bound) in
         let all : 2 ^ bits_of w ≤ 2 ^ (bits_of w - degree k) * 2 ^ s = le_trans (pow_mono (omega (arith, far))) (le_of_eq (pow-add 2 (bits_of w - degree k) s)) in
-        absurd (lt_irrefl (2 ^ bits_of w) (lt_of_le_of_lt (le_trans all low) (lifted k w v n (top-positive k w v h.from-bound) h.in-width).kept))
-    by_size (inr near) = no_step k (shift_of k w n) near (shift-multiple k w n)
+        absurd (lt_irrefl (2 ^ bits_of w) (lt_of_le_of_lt (le_trans all low) (lifted k w v n (top_positive k w v h.from_bound) h.in_width).kept))
+    by_size (inr near) = no_step k (shift_of k w n) near (shift_multiple k w n)
 
 pub unraised : (k : Kind) (w : Width) → Wide w → {n : ℕ} → HasTopBits k w n → raised k w n ≡ n
 unfolding raised

@@ -46,7 +46,7 @@ module _ {A : Type 0} (P : A → Type 0) where
   All [] = Unit {0}
   All (x ∷ xs) = P x × All xs
 
-pub to-all : {A : Type 0} (f : A → Bool) (P : A → Type 0) → ((x : A) → T (f x) → P x) →
+pub to_all : {A : Type 0} (f : A → Bool) (P : A → Type 0) → ((x : A) → T (f x) → P x) →
     (xs : List A) → T (all f xs) → All P xs
-to-all f P h [] t = tt
-to-all f P h (x ∷ xs) t = (h x (both_left (f x) (all f xs) t), to-all f P h xs (both_right (f x) (all f xs) t))
+to_all f P h [] t = tt
+to_all f P h (x ∷ xs) t = (h x (both_left (f x) (all f xs) t), to_all f P h xs (both_right (f x) (all f xs) t))

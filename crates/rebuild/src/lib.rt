@@ -3,7 +3,7 @@
 // Everything is worked out at 64 bits, whatever the root's own width.
 ghost use Rattle.std.specs.Prelude.{◌<◌};
 ghost use Rattle.defs.specs.Kinds.{square, cube, pow, u8, u16, u32, u64};
-ghost use Rattle.defs.specs.Rebuild.{restLimit, Rebuilt};
+ghost use Rattle.defs.specs.Rebuild.{rest_limit, Rebuilt};
 ghost use Rattle.rebuild.specs.Within.{Within};
 
 #[repr(C)]
@@ -63,7 +63,7 @@ fn within(power: u64, limit: u64, rest: u64, top: u64) -> Rebuilt64
 }
 
 fn square_within(root: u32, rest: u64, top: u64) -> Rebuilt64
-    ensures { Within (pow square root) (restLimit square root) rest top result.refusal result.value }
+    ensures { Within (pow square root) (rest_limit square root) rest top result.refusal result.value }
 {
     let r = root as u64;
     within(r * r, 2 * r, rest, top)
@@ -72,7 +72,7 @@ fn square_within(root: u32, rest: u64, top: u64) -> Rebuilt64
 // A root whose cube is above every u64. Three times q may pass 64 bits too, so the remainder is divided instead.
 fn cube_beyond(root: u32, rest: u64, top: u64) -> Rebuilt64
     requires { 2642245 < root }
-    ensures { Within (pow cube root) (restLimit cube root) rest top result.refusal result.value }
+    ensures { Within (pow cube root) (rest_limit cube root) rest top result.refusal result.value }
 {
     let r = root as u64;
     let q = r * r + r;
@@ -89,7 +89,7 @@ fn cube_beyond(root: u32, rest: u64, top: u64) -> Rebuilt64
 }
 
 fn cube_within(root: u32, rest: u64, top: u64) -> Rebuilt64
-    ensures { Within (pow cube root) (restLimit cube root) rest top result.refusal result.value }
+    ensures { Within (pow cube root) (rest_limit cube root) rest top result.refusal result.value }
 {
     if root > 2642245 {
         return cube_beyond(root, rest, top);

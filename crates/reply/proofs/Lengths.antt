@@ -7,70 +7,70 @@ use native.Mathlib.Nat.{zero-mul}
 use native.Mathlib.Omega.{arith}
 use lib.Dec.{lit<, lit≤}
 use lib.ListN.{length, length-append}
-use Rattle.defs.specs.Kinds.{Kind, square, cube, Width, u32, bits_of, rootBits}
-use Rattle.defs.specs.Roots.{rootOf, rest_of}
-use Rattle.defs.specs.Cells.{raised, fullStart, fullSteps}
-use Rattle.laws.proofs.Roots.{root_is, comes_back, answer-is}
-use Rattle.laws.proofs.FixUp.{root-fits}
-use Rattle.laws.proofs.Shift.{raised-top}
-use Rattle.starts.proofs.Calls.{full-counts}
+use Rattle.defs.specs.Kinds.{Kind, square, cube, Width, u32, bits_of, root_bits}
+use Rattle.defs.specs.Roots.{root_of, rest_of}
+use Rattle.defs.specs.Cells.{raised, full_start, full_steps}
+use Rattle.laws.proofs.Roots.{root_is, comes_back, answer_is}
+use Rattle.laws.proofs.FixUp.{root_fits}
+use Rattle.laws.proofs.Shift.{raised_top}
+use Rattle.starts.proofs.Calls.{full_counts}
 use Rattle.text.specs.Decimal.{text_of}
-use Rattle.text.specs.Request.{kind_of, requestOf}
-use Rattle.text.proofs.Texts.{text-length-32}
+use Rattle.text.specs.Request.{kind_of, request_of}
+use Rattle.text.proofs.Texts.{text_length_32}
 use Rattle.text.proofs.Asking.{asks}
-use Rattle.reply.specs.Lines.{line, numberLine, widthName, kindName, valueName, rootName, restName, startName, stepsName, kindText, askedLines, foundLines}
-use Rattle.reply.specs.Reply.{answer_of, replyOf}
-use Rattle.reply.proofs.Replies.{answer-good, answer-bad}
+use Rattle.reply.specs.Lines.{line, number_line, width_name, kind_name, value_name, root_name, rest_name, start_name, steps_name, kind_text, asked_lines, found_lines}
+use Rattle.reply.specs.Reply.{answer_of, reply_of}
+use Rattle.reply.proofs.Replies.{answer_good, answer_bad}
 
 -- a value brought to its top bits stays within its width
-raised-fits : (k : Kind) (w : Width) (n : ℕ) → n < 2 ^ bits_of w → raised k w n < 2 ^ bits_of w
+raised_fits : (k : Kind) (w : Width) (n : ℕ) → n < 2 ^ bits_of w → raised k w n < 2 ^ bits_of w
 unfolding raised
-raised-fits k w zero h = rw zero-mul h
-raised-fits k w (suc n) h = (raised-top k w (omega arith) h).in-width
+raised_fits k w zero h = rw zero-mul h
+raised_fits k w (suc n) h = (raised_top k w (omega arith) h).in_width
 
 -- so start and steps of a full call, which add up to its root, fit the root's type
-full-fits : (k : Kind) (w : Width) (n : ℕ) → n < 2 ^ bits_of w → fullStart k w n + fullSteps k w n < 2 ^ rootBits w
-full-fits k w n h =
+full_fits : (k : Kind) (w : Width) (n : ℕ) → n < 2 ^ bits_of w → full_start k w n + full_steps k w n < 2 ^ root_bits w
+full_fits k w n h =
     let top : ℕ = raised k w n in
-    rw (full-counts k w n h).0 (root-fits k w (rootOf k top) top (root_is k top).fits (raised-fits k w n h))
+    rw (full_counts k w n h).0 (root_fits k w (root_of k top) top (root_is k top).fits (raised_fits k w n h))
 
 -- a line is its name, its text and a newline
-line-length : (name text : List ℕ) → length (line name text) ≡ length name + length text + 1
+line_length : (name text : List ℕ) → length (line name text) ≡ length name + length text + 1
 unfolding line
-line-length name text = omega (arith, length-append name (text ++ (10 ∷ [])), length-append text (10 ∷ []))
+line_length name text = omega (arith, length-append name (text ++ (10 ∷ [])), length-append text (10 ∷ []))
 
-number-length : (name : List ℕ) (n : ℕ) → n < 2 ^ 32 → length (numberLine name n) ≤ length name + 11
-number-length name n h = omega (arith, line-length name (text_of n), text-length-32 n h)
+number_length : (name : List ℕ) (n : ℕ) → n < 2 ^ 32 → length (number_line name n) ≤ length name + 11
+number_length name n h = omega (arith, line_length name (text_of n), text_length_32 n h)
 
 -- the seven lines of a u32, with at most ten digits a number
-answer-length : (k : Kind) (v : ℕ) → v < 2 ^ 32 → length (answer_of k u32 v) ≤ 128
-unfolding answer_of askedLines foundLines
-answer-length k v h =
-    let bill = full-fits k u32 v h in
-    let root : rootOf k v < 2 ^ 16 = root-fits k u32 (rootOf k v) v (root_is k v).fits h in
-    let back = comes_back k (answer-is k v) in
+answer_length : (k : Kind) (v : ℕ) → v < 2 ^ 32 → length (answer_of k u32 v) ≤ 128
+unfolding answer_of asked_lines found_lines
+answer_length k v h =
+    let bill = full_fits k u32 v h in
+    let root : root_of k v < 2 ^ 16 = root_fits k u32 (root_of k v) v (root_is k v).fits h in
+    let back = comes_back k (answer_is k v) in
     simp length-append
     (omega (
       arith,
-      number-length widthName 32 (lit< tt),
-      line-length kindName (kindText k),
-      kind-length k,
-      number-length valueName v h,
-      number-length rootName (rootOf k v) (omega arith),
-      number-length restName (rest_of k v) (omega arith),
-      number-length startName (fullStart k u32 v) (omega arith),
-      number-length stepsName (fullSteps k u32 v) (omega arith),
+      number_length width_name 32 (lit< tt),
+      line_length kind_name (kind_text k),
+      kind_length k,
+      number_length value_name v h,
+      number_length root_name (root_of k v) (omega arith),
+      number_length rest_name (rest_of k v) (omega arith),
+      number_length start_name (full_start k u32 v) (omega arith),
+      number_length steps_name (full_steps k u32 v) (omega arith),
     ))
   where
-    kind-length : (k : Kind) → length (kindText k) ≤ 6
-    kind-length square = lit≤ tt
-    kind-length cube = lit≤ tt
+    kind_length : (k : Kind) → length (kind_text k) ≤ 6
+    kind_length square = lit≤ tt
+    kind_length cube = lit≤ tt
 
 -- every reply
-pub reply-length : (s : List ℕ) → length (replyOf s) ≤ 128
-unfolding replyOf
-reply-length s = by-test (requestOf s).ok refl
+pub reply_length : (s : List ℕ) → length (reply_of s) ≤ 128
+unfolding reply_of
+reply_length s = by_test (request_of s).ok refl
   where
-    by-test : (t : Bool) → (requestOf s).ok ≡ t → length (replyOf s) ≤ 128
-    by-test true e = rw (answer-good (requestOf s) e) (answer-length (kind_of (requestOf s).cube) (requestOf s).value (omega (arith, (asks s e).reads.small)))
-    by-test false e = rw (answer-bad (requestOf s) e) (lit≤ tt)
+    by_test : (t : Bool) → (request_of s).ok ≡ t → length (reply_of s) ≤ 128
+    by_test true e = rw (answer_good (request_of s) e) (answer_length (kind_of (request_of s).cube) (request_of s).value (omega (arith, (asks s e).reads.small)))
+    by_test false e = rw (answer_bad (request_of s) e) (lit≤ tt)

@@ -5,4 +5,4 @@ use Rattle.text.specs.declared.write.Written.{Written}
 
 -- where the bytes fit from the place on, they are written there
 pub record Puts (old : List ℕ) (at : ℕ) (bytes new : List ℕ) (r : Written) : Type 0 where
-  pub in-room : at + length bytes ≤ length old → Wrote old at bytes new r
+  pub in_room : at + length bytes ≤ length old → Wrote old at bytes new r

@@ -3,13 +3,13 @@ mod lines;
 
 ghost use Rattle.text.specs.Writing.{Wrote};
 ghost use Rattle.reply.specs.Putting.{Puts};
-ghost use Rattle.reply.specs.Reply.{answerTo, replyOf, Replied};
+ghost use Rattle.reply.specs.Reply.{answer_to, reply_of, Replied};
 
 use crate::lines::put_answer;
 use text::{Request, Written, write_bytes};
 
 fn put_reply(out: &mut [u8], request: Request) -> Written
-    ensures { Puts out.old 0 (answerTo request) out.new result }
+    ensures { Puts out.old 0 (answer_to request) out.new result }
 {
     if !request.ok {
         return write_bytes(out, 0, b"bad input\n");
@@ -19,7 +19,7 @@ fn put_reply(out: &mut [u8], request: Request) -> Written
 
 // The reply is at most 128 bytes long. It is put together apart, so that an `out` too short for it stays as it was.
 pub fn reply(input: &[u8], out: &mut [u8]) -> Written
-    ensures { Wrote out.old 0 (replyOf input.now) out.new result }
+    ensures { Wrote out.old 0 (reply_of input.now) out.new result }
 {
     let request = text::request_of(input);
     let mut lines = [0u8; 128];

@@ -2,7 +2,7 @@
 ghost use Rattle.defs.specs.Kinds.{u32};
 ghost use Rattle.defs.specs.Answers.{Full};
 ghost use Rattle.text.specs.Request.{kind_of};
-ghost use Rattle.reply.specs.Lines.{line, numberLine, kindName, kindText, askedLines, foundLines};
+ghost use Rattle.reply.specs.Lines.{line, number_line, kind_name, kind_text, asked_lines, found_lines};
 ghost use Rattle.reply.specs.Putting.{Puts};
 ghost use Rattle.reply.specs.Reply.{answer_of};
 
@@ -18,7 +18,7 @@ fn put_text(out: &mut [u8], at: usize, name: &[u8], text: &[u8]) -> Written
 }
 
 fn put_number(out: &mut [u8], at: usize, name: &[u8], n: u64) -> Written
-    ensures { Puts out.old at (numberLine name.now n) out.new result }
+    ensures { Puts out.old at (number_line name.now n) out.new result }
 {
     let named = write_bytes(out, at, name);
     let said = write_decimal(out, named.next, n);
@@ -26,7 +26,7 @@ fn put_number(out: &mut [u8], at: usize, name: &[u8], n: u64) -> Written
 }
 
 fn put_kind(out: &mut [u8], at: usize, cube: bool) -> Written
-    ensures { Puts out.old at (line kindName (kindText (kind_of cube))) out.new result }
+    ensures { Puts out.old at (line kind_name (kind_text (kind_of cube))) out.new result }
 {
     if cube {
         return put_text(out, at, b"kind=", b"cube");
@@ -35,7 +35,7 @@ fn put_kind(out: &mut [u8], at: usize, cube: bool) -> Written
 }
 
 fn put_asked(out: &mut [u8], at: usize, cube: bool, value: u32) -> Written
-    ensures { Puts out.old at (askedLines (kind_of cube) u32 value) out.new result }
+    ensures { Puts out.old at (asked_lines (kind_of cube) u32 value) out.new result }
 {
     let width = put_number(out, at, b"width=", 32);
     let kind = put_kind(out, width.next, cube);
@@ -43,7 +43,7 @@ fn put_asked(out: &mut [u8], at: usize, cube: bool, value: u32) -> Written
 }
 
 fn put_found(out: &mut [u8], at: usize, found: RootRem32) -> Written
-    ensures { Puts out.old at (foundLines found.root found.rest found.start found.steps) out.new result }
+    ensures { Puts out.old at (found_lines found.root found.rest found.start found.steps) out.new result }
 {
     let root = put_number(out, at, b"root=", found.root as u64);
     let rest = put_number(out, root.next, b"rest=", found.rest as u64);

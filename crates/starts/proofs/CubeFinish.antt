@@ -9,8 +9,8 @@ use Rattle.defs.specs.Kinds.{cube, pow}
 use Rattle.laws.proofs.Powers.{rises}
 
 -- with r³·h at most R, the start S, r·r·h in units of Q, has a cube of at most B·h
-pub never-above : (B Q R h r S : ℕ) → 0 < Q → R * R ≡ Q * Q * Q * B → S * Q ≤ r * r * h → r * r * r * h ≤ R → S * S * S ≤ B * h
-never-above B Q R h r S pos unit start most =
+pub never_above : (B Q R h r S : ℕ) → 0 < Q → R * R ≡ Q * Q * Q * B → S * Q ≤ r * r * h → r * r * r * h ≤ R → S * S * S ≤ B * h
+never_above B Q R h r S pos unit start most =
     let cubed = rises cube start in
     let squared = mul-le-mul_right h (mul-le-mul most most) in
     let same : R * R * h ≡ Q * Q * Q * B * h = rw unit in
@@ -19,9 +19,9 @@ never-above B Q R h r S pos unit start most =
 -- the area of r + e, its square times h, is at least D below s·Q for each s above S + c
 area : (B Q c e h r S H R D s : ℕ) → r * r * h ≤ (S + 1) * Q + r * B → h ≤ H → r ≤ R → R * B + 2 * e * (R + e) * H + D ≡ c * Q →
     S + 1 + c ≤ s → (r + e) * (r + e) * h + D ≤ s * Q
-area B Q c e h r S H R D s start in-h in-r split far =
+area B Q c e h r S H R D s start in_h in_r split far =
     let wide : r + e ≤ R + e = omega arith in
-    omega (arith, mul-le-mul_right Q far, mul-le-mul_right B in-r, mul-le-mul_left (2 * e) (mul-le-mul wide in-h))
+    omega (arith, mul-le-mul_right Q far, mul-le-mul_right B in_r, mul-le-mul_left (2 * e) (mul-le-mul wide in_h))
 
 -- s·Q less D grows faster than s, so that up to m it is at most s/m of what it is at m; and so for the cubes
 slope : (A D Q Z m s : ℕ) → A + D ≤ s * Q → Z + D ≡ m * Q → s ≤ m → pow cube A * pow cube m ≤ pow cube s * pow cube Z
@@ -58,10 +58,10 @@ pub record Sharp (B Q c e K H R D Z least greatest : ℕ) : Type 0 where
   pub steep : B * pow cube Z * pow cube least + K * K * pow cube greatest * B < K * K * pow cube greatest * pow cube least
 
 -- a root s between those ends, whose cube is below the end of h's unit, is at most c above the start
-pub never-far : {B Q c e K H R D Z least greatest : ℕ} (h r S s : ℕ) → Sharp B Q c e K H R D Z least greatest →
+pub never_far : {B Q c e K H R D Z least greatest : ℕ} (h r S s : ℕ) → Sharp B Q c e K H R D Z least greatest →
     r * r * h ≤ (S + 1) * Q + r * B → h ≤ H → r ≤ R → K ≤ pow cube (r + e) * h → least ≤ s → s ≤ greatest → pow cube s < (h + 1) * B →
     s ≤ S + c
-never-far {B} {Q} {c} {e} {K} {H} {R} {D} {Z} {least} {greatest} h r S s sharp start in-h in-r large from to low =
+never_far {B} {Q} {c} {e} {K} {H} {R} {D} {Z} {least} {greatest} h r S s sharp start in_h in_r large from to low =
     let closer : s < S + 1 + c = lt_of_not-le far in
     omega arith
   where
@@ -71,5 +71,5 @@ never-far {B} {Q} {c} {e} {K} {H} {R} {D} {Z} {least} {greatest} h r S s sharp s
     far : S + 1 + c ≤ s → ⊥
     far beyond =
         refuted B (K * K) h (pow cube s) (pow cube A) (pow cube Z) (pow cube greatest) (pow cube least) low (sixth K (r + e) h large)
-        (slope A D Q Z greatest s (area B Q c e h r S H R D s start in-h in-r sharp.split beyond) sharp.scaled to)
+        (slope A D Q Z greatest s (area B Q c e h r S H R D s start in_h in_r sharp.split beyond) sharp.scaled to)
         sharp.steep (rises cube from)

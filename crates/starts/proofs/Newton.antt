@@ -9,7 +9,7 @@ use native.Mathlib.Omega.{arith}
 use lib.Dec.{leb}
 use borrow.Author.Tests.{leb-true, leb-false}
 use Rattle.defs.specs.Kinds.{Kind, square, cube, pow, degree}
-use Rattle.laws.proofs.Powers.{rises, pow-product, pow-positive}
+use Rattle.laws.proofs.Powers.{rises, pow_product, pow_positive}
 
 -- the k-th power of p·((k+1)c − v), times g, where v = p^k·g
 abbrev pub phi : Kind → ℕ → ℕ → ℕ
@@ -31,16 +31,16 @@ no_power square v = omega arith
 no_power cube v = omega arith
 
 -- phi rises up to c
-phi-rises : (k : Kind) (c v w : ℕ) → v ≤ w → w ≤ c → phi k c v ≤ phi k c w
-phi-rises k c v w vw wc =
+phi_rises : (k : Kind) (c v w : ℕ) → v ≤ w → w ≤ c → phi k c v ≤ phi k c w
+phi_rises k c v w vw wc =
     let N = (degree k + 1) * c - w in
     let far : degree k * w ≤ degree k * c = mul-le-mul_left (degree k) wc in
     subst₂ (λ (M : ℕ) (u : ℕ). v * pow k M ≤ u * pow k N) (omega arith) (omega arith)
     (climbs k v (w - v) N (rw (add-sub_of_le vw) (omega arith)))
 
 -- phi falls from c on
-phi-falls : (k : Kind) (c w v : ℕ) → c ≤ w → w ≤ v → phi k c v ≤ phi k c w
-phi-falls k c w v cw wv = by_size (leb v ((degree k + 1) * c)) refl
+phi_falls : (k : Kind) (c w v : ℕ) → c ≤ w → w ≤ v → phi k c v ≤ phi k c w
+phi_falls k c w v cw wv = by_size (leb v ((degree k + 1) * c)) refl
   where
     N : ℕ
     N = (degree k + 1) * c - v
@@ -59,42 +59,42 @@ phi-falls k c w v cw wv = by_size (leb v ((degree k + 1) * c)) refl
 top : (k : Kind) (c v : ℕ) → phi k c v ≤ c * pow k (degree k * c)
 top k c v = by_size (leb v c) refl
   where
-    is-top : phi k c c ≡ c * pow k (degree k * c)
-    is-top = ap (λ (M : ℕ). c * pow k M) (omega arith)
+    is_top : phi k c c ≡ c * pow k (degree k * c)
+    is_top = ap (λ (M : ℕ). c * pow k M) (omega arith)
 
     by_size : (t : Bool) → leb v c ≡ t → phi k c v ≤ c * pow k (degree k * c)
-    by_size true e = rw is-top at (phi-rises k c v c (leb-true v c e) (le_refl c))
-    by_size false e = rw is-top at (phi-falls k c c v (le_refl c) (le_of_lt (leb-false v c e)))
+    by_size true e = rw is_top at (phi_rises k c v c (leb-true v c e) (le_refl c))
+    by_size false e = rw is_top at (phi_falls k c c v (le_refl c) (le_of_lt (leb-false v c e)))
 
 -- between two ends phi is at least what it is at both
 ends : (k : Kind) (c lo v hi m : ℕ) → lo ≤ v → v ≤ hi → m ≤ phi k c lo → m ≤ phi k c hi → m ≤ phi k c v
-ends k c lo v hi m a b at-lo at-hi = by_size (leb v c) refl
+ends k c lo v hi m a b at_lo at_hi = by_size (leb v c) refl
   where
     by_size : (t : Bool) → leb v c ≡ t → m ≤ phi k c v
-    by_size true e = le_trans at-lo (phi-rises k c lo v a (leb-true v c e))
-    by_size false e = le_trans at-hi (phi-falls k c v hi (le_of_lt (leb-false v c e)) b)
+    by_size true e = le_trans at_lo (phi_rises k c lo v a (leb-true v c e))
+    by_size false e = le_trans at_hi (phi_falls k c v hi (le_of_lt (leb-false v c e)) b)
 
 -- the power of a step y·D, times g; and of the right side, which is phi
-left-side : (k : Kind) (y D g : ℕ) → pow k (y * D) * g ≡ pow k y * g * pow k D
-left-side k y D g = rw (pow-product k y D) (mul_right_comm (pow k y) (pow k D) g)
+left_side : (k : Kind) (y D g : ℕ) → pow k (y * D) * g ≡ pow k y * g * pow k D
+left_side k y D g = rw (pow_product k y D) (mul_right_comm (pow k y) (pow k D) g)
 
 right_side : (k : Kind) (p c g : ℕ) → pow k (p * ((degree k + 1) * c - pow k p * g)) * g ≡ phi k c (pow k p * g)
 right_side k p c g =
     let Q = (degree k + 1) * c - pow k p * g in
-    rw (pow-product k p Q) (mul_right_comm (pow k p) (pow k Q) g)
+    rw (pow_product k p Q) (mul_right_comm (pow k p) (pow k Q) g)
 
 -- a step y with y·D ≤ p·((k+1)c − p^k·g) is never too large: y^k·g ≤ m, where k^k·c^(k+1) ≤ m·D^k
-pub never-large : (k : Kind) (y D p c g m : ℕ) → 0 < D → y * D ≤ p * ((degree k + 1) * c - pow k p * g) →
+pub never_large : (k : Kind) (y D p c g m : ℕ) → 0 < D → y * D ≤ p * ((degree k + 1) * c - pow k p * g) →
     c * pow k (degree k * c) ≤ m * pow k D → pow k y * g ≤ m
-never-large k y D p c g m pos step enough =
-    let raised = rw (left-side k y D g, right_side k p c g) at (mul-le-mul_right g (rises k step)) in
-    le_of_mul-le-mul_right (le_trans raised (le_trans (top k c (pow k p * g)) enough)) (pow-positive k pos)
+never_large k y D p c g m pos step enough =
+    let raised = rw (left_side k y D g, right_side k p c g) at (mul-le-mul_right g (rises k step)) in
+    le_of_mul-le-mul_right (le_trans raised (le_trans (top k c (pow k p * g)) enough)) (pow_positive k pos)
 
 -- a step y with p·((k+1)c − p^k·g) ≤ y·D, where p^k·g lies from lo to hi, is never too small: m ≤ y^k·g, where m·D^k is at most
 -- phi at both ends
-pub never-small : (k : Kind) (y D p c g m lo hi : ℕ) → 0 < D → p * ((degree k + 1) * c - pow k p * g) ≤ y * D →
+pub never_small : (k : Kind) (y D p c g m lo hi : ℕ) → 0 < D → p * ((degree k + 1) * c - pow k p * g) ≤ y * D →
     lo ≤ pow k p * g → pow k p * g ≤ hi → m * pow k D ≤ phi k c lo → m * pow k D ≤ phi k c hi → m ≤ pow k y * g
-never-small k y D p c g m lo hi pos step above below at-lo at-hi =
-    let raised = rw (left-side k y D g, right_side k p c g) at (mul-le-mul_right g (rises k step)) in
-    let least = ends k c lo (pow k p * g) hi (m * pow k D) above below at-lo at-hi in
-    le_of_mul-le-mul_right (le_trans least raised) (pow-positive k pos)
+never_small k y D p c g m lo hi pos step above below at_lo at_hi =
+    let raised = rw (left_side k y D g, right_side k p c g) at (mul-le-mul_right g (rises k step)) in
+    let least = ends k c lo (pow k p * g) hi (m * pow k D) above below at_lo at_hi in
+    le_of_mul-le-mul_right (le_trans least raised) (pow_positive k pos)

@@ -19,21 +19,21 @@ pub record Spanned (unit : ℕ) (b : Bool) (g h : ℕ) : Type 0 where
   pub high : h ≤ greatest b g
 
 -- the least h of a greater g is not less
-pub least-rises : (b : Bool) (a g : ℕ) → a ≤ g → least b a ≤ least b g
-least-rises true a g h = omega arith
-least-rises false a g h = h
+pub least_rises : (b : Bool) (a g : ℕ) → a ≤ g → least b a ≤ least b g
+least_rises true a g h = omega arith
+least_rises false a g h = h
 
 -- all h of g are below those of a greater one
-pub greatest-below : (b : Bool) (g a : ℕ) → g < a → greatest b g < least b a
-greatest-below true g a h = omega arith
-greatest-below false g a h = h
+pub greatest_below : (b : Bool) (g a : ℕ) → g < a → greatest b g < least b a
+greatest_below true g a h = omega arith
+greatest_below false g a h = h
 
 -- y, halved where b says so, is at most y
-pub halved-below : (b : Bool) (y : ℕ) → cond b (y / 2) y ≤ y
-halved-below true y = omega arith
-halved-below false y = omega arith
+pub halved_below : (b : Bool) (y : ℕ) → cond b (y / 2) y ≤ y
+halved_below true y = omega arith
+halved_below false y = omega arith
 
 -- and at least 1 from 2 on
-pub halved-some : (b : Bool) (y : ℕ) → 2 ≤ y → 1 ≤ cond b (y / 2) y
-halved-some true y h = omega arith
-halved-some false y h = omega arith
+pub halved_some : (b : Bool) (y : ℕ) → 2 ≤ y → 1 ≤ cond b (y / 2) y
+halved_some true y h = omega arith
+halved_some false y h = omega arith

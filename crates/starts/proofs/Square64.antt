@@ -7,16 +7,16 @@ use native.Mathlib.Omega.{arith}
 use lib.Dec.{T, leb, ltb, lit≤, leb→le, ltb→lt}
 use borrow.Author.Tests.{leb-true, leb-false}
 use Rattle.defs.specs.Kinds.{square}
-use Rattle.defs.specs.Tables.{rsqrtTab}
+use Rattle.defs.specs.Tables.{rsqrt_tab}
 use Rattle.defs.specs.Starts.Letters.{hi, guess}
-use Rattle.defs.specs.Starts.Square64.{h, p, x, t, r, a, S}
+use Rattle.defs.specs.Starts.Square64.{h, p, x, t, r, a, cell_start}
 use Rattle.laws.proofs.Powers.{below}
 use Rattle.laws.proofs.Sweeps.{both, both_left, both_right}
 use Rattle.starts.specs.Near.{Near}
 use Rattle.starts.proofs.Ranges.{range, between}
 use Rattle.starts.proofs.SquareGuess.{Guessed, guessed, Stepped, stepped}
-use Rattle.starts.proofs.SquareSecond.{Near92, near-92, excess, Second, second}
-use Rattle.starts.proofs.SquareFinish.{Figures, Aimed, a-below}
+use Rattle.starts.proofs.SquareSecond.{Near92, near_92, excess, Second, second}
+use Rattle.starts.proofs.SquareFinish.{Figures, Aimed, a_below}
 use Rattle.starts.proofs.Resonance.{scan}
 use Rattle.starts.proofs.Resonance as resonance
 
@@ -27,17 +27,17 @@ figures = record {
   halves = refl;
   shares = refl;
   small = (lit≤ tt, lit≤ tt, lit≤ tt);
-  high-left = lit≤ tt;
-  low-left = lit≤ tt;
-  bound-left = lit≤ tt;
+  high_left = lit≤ tt;
+  low_left = lit≤ tt;
+  bound_left = lit≤ tt;
 }
 
 -- from h to h·B, over variables, as the numbers are too large for `omega`
-times-width : (u h m B : ℕ) → u * u * h ≤ m → u * u * (h * B) ≤ m * B
-times-width u h m B l = omega (arith, mul-le-mul_right B l)
+times_width : (u h m B : ℕ) → u * u * h ≤ m → u * u * (h * B) ≤ m * B
+times_width u h m B l = omega (arith, mul-le-mul_right B l)
 
-times-sixteen : (y h m k B : ℕ) → m ≤ (y + 1) * (y + 1) * h → m * (256 * k * B) ≤ k * ((16 * y + 16) * (16 * y + 16) * (h * B))
-times-sixteen y h m k B l = omega (arith, mul-le-mul_right (256 * k * B) l)
+times_sixteen : (y h m k B : ℕ) → m ≤ (y + 1) * (y + 1) * h → m * (256 * k * B) ≤ k * ((16 * y + 16) * (16 * y + 16) * (h * B))
+times_sixteen y h m k B l = omega (arith, mul-le-mul_right (256 * k * B) l)
 
 -- r and a go by h alone
 same : (n m : ℕ) → h n ≡ h m → (r n ≡ r m) × (a n ≡ a m)
@@ -53,93 +53,93 @@ struck n = omega arith
 r_small : ℕ → Bool
 r_small z = ltb (r (z * 2 ^ 32)) (2 ^ 32)
 
-first-nine : T (range r_small 9 (2 ^ 30))
-unfolding r_small rsqrtTab h p x t r
-first-nine = tt
+first_nine : T (range r_small 9 (2 ^ 30))
+unfolding r_small rsqrt_tab h p x t r
+first_nine = tt
 
 -- the guess of the last table entry, and x near its end
-last-guess : (n : ℕ) → h n < 2 ^ 32 → 2 ^ 32 - 2 ^ 17 < h n → p n ≡ 257
-unfolding p rsqrtTab
-last-guess n high low =
+last_guess : (n : ℕ) → h n < 2 ^ 32 → 2 ^ 32 - 2 ^ 17 < h n → p n ≡ 257
+unfolding p rsqrt_tab
+last_guess n high low =
     let last : h n / 2 ^ 25 - 32 ≡ 95 = omega arith in
     ap (guess square) last
 
 last_step : (n : ℕ) → h n < 2 ^ 32 → 2 ^ 32 - 2 ^ 17 < h n → x n ≤ 2 ^ 30
 unfolding x
-last_step n high low = rw (last-guess n high low) (omega arith)
+last_step n high low = rw (last_guess n high low) (omega arith)
 
 module _ (n : ℕ) (low : 2 ^ 62 ≤ n) (high : n < 2 ^ 64) where
   -- h is n at 32 bits
-  h-low : 2 ^ 30 ≤ h n
+  h_low : 2 ^ 30 ≤ h n
   unfolding h
-  h-low = omega arith
+  h_low = omega arith
 
-  h-high : h n < 2 ^ 32
+  h_high : h n < 2 ^ 32
   unfolding h
-  h-high = omega arith
+  h_high = omega arith
 
   -- the table's guess
-  guess-at : Guessed (p n) (h n)
+  guess_at : Guessed (p n) (h n)
   unfolding p
-  guess-at = guessed (h n) h-low h-high
+  guess_at = guessed (h n) h_low h_high
 
   -- x is the first step
-  x-is : x n ≡ 3 * 2 ^ 21 * p n - p n * p n * p n * h n / 2 ^ 27
+  x_is : x n ≡ 3 * 2 ^ 21 * p n - p n * p n * p n * h n / 2 ^ 27
   unfolding x
-  x-is = omega arith
+  x_is = omega arith
 
   -- the first step from it
-  step-at : Stepped (2 ^ 27) (3 * 2 ^ 21) (2 ^ 82) (p n) (h n) (x n)
-  step-at = stepped (2 ^ 27) (3 * 2 ^ 21) (lit≤ tt) refl guess-at x-is (2 ^ 82) refl
+  step_at : Stepped (2 ^ 27) (3 * 2 ^ 21) (2 ^ 82) (p n) (h n) (x n)
+  step_at = stepped (2 ^ 27) (3 * 2 ^ 21) (lit≤ tt) refl guess_at x_is (2 ^ 82) refl
 
   -- it is near 2^46/√h
-  x-at : Near92 (x n) (h n)
-  x-at = near-92 (x n) (h n) h-low h-high step-at.not-above step-at.hardly-below
+  x_at : Near92 (x n) (h n)
+  x_at = near_92 (x n) (h n) h_low h_high step_at.not_above step_at.hardly_below
 
   -- the second step
   second_at : Second (x n) (h n) (t n) (hi 32 (x n) (t n))
   unfolding t
-  second_at = second h-high x-at refl refl
+  second_at = second h_high x_at refl refl
 
   -- r is large, and hardly above 2^47/√h
-  r-least : 2 ^ 30 ≤ r n
+  r_least : 2 ^ 30 ≤ r n
   unfolding r
-  r-least = omega (arith, second_at.y-least)
+  r_least = omega (arith, second_at.y_least)
 
-  r-rounded : (r n - 13) * (r n - 13) * h n ≤ 2 ^ 94
+  r_rounded : (r n - 13) * (r n - 13) * h n ≤ 2 ^ 94
   unfolding r
-  r-rounded = second_at.rounded-not-above
+  r_rounded = second_at.rounded_not_above
 
   -- r fits: at the first nine h as computed, and above by what it is near to
-  r-fits : r n < 2 ^ 32
+  r_fits : r n < 2 ^ 32
   unfolding r_small
-  r-fits = by_size (leb (2 ^ 30 + 9) (h n)) refl
+  r_fits = by_size (leb (2 ^ 30 + 9) (h n)) refl
     where
       by_size : (t : Bool) → leb (2 ^ 30 + 9) (h n) ≡ t → r n < 2 ^ 32
       by_size true e =
           lt_of_not-le
           (λ (l : 2 ^ 32 ≤ r n).
           let l' : 2 ^ 32 - 13 ≤ r n - 13 = omega arith in
-          omega (arith, r-rounded, mul-le-mul (mul-le-mul l' l') (leb-true (2 ^ 30 + 9) (h n) e)))
+          omega (arith, r_rounded, mul-le-mul (mul-le-mul l' l') (leb-true (2 ^ 30 + 9) (h n) e)))
       by_size false e =
           subst (λ (z : ℕ). z < 2 ^ 32) (same (h n * 2 ^ 32) n (struck n)).0
           (ltb→lt (r (h n * 2 ^ 32)) (2 ^ 32)
-          (between r_small 9 (2 ^ 30) first-nine (h n) h-low (leb-false (2 ^ 30 + 9) (h n) e)))
+          (between r_small 9 (2 ^ 30) first_nine (h n) h_low (leb-false (2 ^ 30 + 9) (h n) e)))
 
   -- what r has too much is small: at the last table entry by that entry, and below by what x is near to
-  excess-at : excess (x n) * h n ≤ 5 * 2 ^ 92
-  excess-at = by_size (leb (h n) (2 ^ 32 - 2 ^ 17)) refl
+  excess_at : excess (x n) * h n ≤ 5 * 2 ^ 92
+  excess_at = by_size (leb (h n) (2 ^ 32 - 2 ^ 17)) refl
     where
       by_size : (t : Bool) → leb (h n) (2 ^ 32 - 2 ^ 17) ≡ t → excess (x n) * h n ≤ 5 * 2 ^ 92
-      by_size true e = x-at.excess_small (leb-true (h n) (2 ^ 32 - 2 ^ 17) e)
+      by_size true e = x_at.excess_small (leb-true (h n) (2 ^ 32 - 2 ^ 17) e)
       by_size false e =
-          let l = last_step n h-high (leb-false (h n) (2 ^ 32 - 2 ^ 17) e) in
-          omega (arith, mul-le-mul l h-high, mul-le-mul (mul-le-mul l l) h-high)
+          let l = last_step n h_high (leb-false (h n) (2 ^ 32 - 2 ^ 17) e) in
+          omega (arith, mul-le-mul l h_high, mul-le-mul (mul-le-mul l l) h_high)
 
   -- a is r·h/2^31 less something from 10 to 12
   a_at : (10 ≤ 2 * hi 32 (r n) (h n)) × ((a n + 10) * 2 ^ 31 ≤ r n * h n) × (r n * h n ≤ (a n + 12) * 2 ^ 31)
   unfolding a
-  a_at = omega (arith, mul-le-mul r-least h-low)
+  a_at = omega (arith, mul-le-mul r_least h_low)
 
   -- all that the last step needs
   aimed :
@@ -147,28 +147,28 @@ module _ (n : ℕ) (low : 2 ^ 62 ≤ n) (high : n < 2 ^ 64) where
       (hi 32 (x n) (t n) * 2 ^ 64 - excess (x n)) (excess (x n))
   unfolding h r
   aimed = record {
-    g-low = omega arith;
-    g-high = omega arith;
-    in-width = high;
-    r-fits = r-fits;
-    parts = omega (arith, second_at.y-least, second_at.excess-fits);
-    not-above = times-width (hi 32 (x n) (t n) * 2 ^ 64 - excess (x n)) (h n) (2 ^ 214) (2 ^ 32) second_at.not-above;
-    excess = omega (arith, excess-at);
-    excess_small = second_at.excess-fits;
-    hardly-below = times-sixteen (hi 32 (x n) (t n)) (h n) ((2 ^ 20 - 1) * 2 ^ 66) (2 ^ 20) (2 ^ 32) second_at.hardly-below;
-    a-low = omega (arith, a_at.1);
-    a-high = omega (arith, a_at.2, h-high);
+    g_low = omega arith;
+    g_high = omega arith;
+    in_width = high;
+    r_fits = r_fits;
+    parts = omega (arith, second_at.y_least, second_at.excess_fits);
+    not_above = times_width (hi 32 (x n) (t n) * 2 ^ 64 - excess (x n)) (h n) (2 ^ 214) (2 ^ 32) second_at.not_above;
+    excess = omega (arith, excess_at);
+    excess_small = second_at.excess_fits;
+    hardly_below = times_sixteen (hi 32 (x n) (t n)) (h n) ((2 ^ 20 - 1) * 2 ^ 66) (2 ^ 20) (2 ^ 32) second_at.hardly_below;
+    a_low = omega (arith, a_at.1);
+    a_high = omega (arith, a_at.2, h_high);
   }
 
 -- S rises with n, for one h
-finish-rises : (n m a r : ℕ) → n ≤ m → a + (n - a * a) / 2 ^ 32 * r / 2 ^ 32 ≤ a + (m - a * a) / 2 ^ 32 * r / 2 ^ 32
-finish-rises n m a r l =
+finish_rises : (n m a r : ℕ) → n ≤ m → a + (n - a * a) / 2 ^ 32 * r / 2 ^ 32 ≤ a + (m - a * a) / 2 ^ 32 * r / 2 ^ 32
+finish_rises n m a r l =
     let quotient : (n - a * a) / 2 ^ 32 ≤ (m - a * a) / 2 ^ 32 = omega arith in
     omega (arith, mul-le-mul_right r quotient)
 
-rises : (n m : ℕ) → h n ≡ h m → n ≤ m → S n ≤ S m
-unfolding S
-rises n m e l = rw ((same n m e).0, (same n m e).1) (finish-rises n m (a m) (r m) l)
+rises : (n m : ℕ) → h n ≡ h m → n ≤ m → cell_start n ≤ cell_start m
+unfolding cell_start
+rises n m e l = rw ((same n m e).0, (same n m e).1) (finish_rises n m (a m) (r m) l)
 
 -- the last n before s², and the last n of the h before
 last : ℕ → ℕ
@@ -179,23 +179,23 @@ before s = h (last s) * 2 ^ 32 - 1
 
 -- S is below s at both, and no more than the two h matter
 misses : ℕ → ℕ → Bool
-misses s d = both (leb d (2 ^ 32)) (both (ltb (S (last s)) s) (ltb (S (before s)) s))
+misses s d = both (leb d (2 ^ 32)) (both (ltb (cell_start (last s)) s) (ltb (cell_start (before s)) s))
 
 -- so it is wherever S could be above the root
 scanned : T (scan (2 ^ 32) (2 ^ 31) 13 misses)
-unfolding last before misses rsqrtTab h p x t r a S
+unfolding last before misses rsqrt_tab h p x t r a cell_start
 scanned = tt
 
 -- and then n has an S below s
-misses-all : (n s d : ℕ) → n < s * s → s * s ≤ n + d → T (misses s d) → S n < s
+misses_all : (n s d : ℕ) → n < s * s → s * s ≤ n + d → T (misses s d) → cell_start n < s
 unfolding last before misses h
-misses-all n s d above deep t = by-h (leb (h (last s) * 2 ^ 32) n) refl
+misses_all n s d above deep t = by_h (leb (h (last s) * 2 ^ 32) n) refl
   where
     at_last : Bool
-    at_last = ltb (S (last s)) s
+    at_last = ltb (cell_start (last s)) s
 
     at_before : Bool
-    at_before = ltb (S (before s)) s
+    at_before = ltb (cell_start (before s)) s
 
     shallow : d ≤ 2 ^ 32
     shallow = leb→le d (2 ^ 32) (both_left (leb d (2 ^ 32)) (both at_last at_before) t)
@@ -203,79 +203,79 @@ misses-all n s d above deep t = by-h (leb (h (last s) * 2 ^ 32) n) refl
     two : T (both at_last at_before)
     two = both_right (leb d (2 ^ 32)) (both at_last at_before) t
 
-    by-h : (t : Bool) → leb (h (last s) * 2 ^ 32) n ≡ t → S n < s
-    by-h true e =
+    by_h : (t : Bool) → leb (h (last s) * 2 ^ 32) n ≡ t → cell_start n < s
+    by_h true e =
         let l = leb-true (h (last s) * 2 ^ 32) n e in
-        lt_of_le_of_lt (rises n (last s) (omega arith) (omega arith)) (ltb→lt (S (last s)) s (both_left at_last at_before two))
-    by-h false e =
+        lt_of_le_of_lt (rises n (last s) (omega arith) (omega arith)) (ltb→lt (cell_start (last s)) s (both_left at_last at_before two))
+    by_h false e =
         let l = leb-false (h (last s) * 2 ^ 32) n e in
         lt_of_le_of_lt (rises n (before s) (omega (arith, shallow)) (omega arith))
-        (ltb→lt (S (before s)) s (both_right at_last at_before two))
+        (ltb→lt (cell_start (before s)) s (both_right at_last at_before two))
 
 -- S is not above the root, and at most two below it
-pub near : (n : ℕ) → 2 ^ 62 ≤ n → n < 2 ^ 64 → Near square 2 n (S n)
-unfolding S
+pub near : (n : ℕ) → 2 ^ 62 ≤ n → n < 2 ^ 64 → Near square 2 n (cell_start n)
+unfolding cell_start
 near n low high =
-    resonance.near figures (aimed n low high) (2 ^ 31) (S n) refl refl misses scanned (misses-all n)
+    resonance.near figures (aimed n low high) (2 ^ 31) (cell_start n) refl refl misses scanned (misses_all n)
 
 -- what the machine's arithmetic needs, letter by letter
 pub record Safe (n : ℕ) : Type 0 where
   pub index : (32 ≤ h n / 2 ^ 25) × (h n / 2 ^ 25 - 32 < 96)
-  pub p-fits : p n < 512
-  pub cube-fits : 32 * (p n * p n * p n) < 2 ^ 32
-  pub product-fits : 3 * p n * 2 ^ 21 < 2 ^ 32
-  pub x-stays : hi 32 (h n) (32 * (p n * p n * p n)) ≤ 3 * p n * 2 ^ 21
+  pub p_fits : p n < 512
+  pub cube_fits : 32 * (p n * p n * p n) < 2 ^ 32
+  pub product_fits : 3 * p n * 2 ^ 21 < 2 ^ 32
+  pub x_stays : hi 32 (h n) (32 * (p n * p n * p n)) ≤ 3 * p n * 2 ^ 21
   pub x_fits : x n < 2 ^ 32
-  pub t-stays : hi 32 (x n) (hi 32 (x n) (h n)) ≤ 3 * 2 ^ 28
-  pub t-fits : t n < 2 ^ 32
-  pub r-fits : r n < 2 ^ 32
-  pub double-fits : 2 * hi 32 (r n) (h n) < 2 ^ 32
-  pub a-stays : 10 ≤ 2 * hi 32 (r n) (h n)
-  pub square-fits : a n * a n ≤ n
+  pub t_stays : hi 32 (x n) (hi 32 (x n) (h n)) ≤ 3 * 2 ^ 28
+  pub t_fits : t n < 2 ^ 32
+  pub r_fits : r n < 2 ^ 32
+  pub double_fits : 2 * hi 32 (r n) (h n) < 2 ^ 32
+  pub a_stays : 10 ≤ 2 * hi 32 (r n) (h n)
+  pub square_fits : a n * a n ≤ n
   pub quotient_fits : (n - a n * a n) / 2 ^ 32 < 2 ^ 32
-  pub S-fits : S n < 2 ^ 32
+  pub cell_start_fits : cell_start n < 2 ^ 32
 
 -- the doubling in a fits: at the last twenty h as computed, and below as a is not above the root
-double-small : ℕ → Bool
-double-small z = ltb (2 * hi 32 (r (z * 2 ^ 32)) z) (2 ^ 32)
+double_small : ℕ → Bool
+double_small z = ltb (2 * hi 32 (r (z * 2 ^ 32)) z) (2 ^ 32)
 
-last-twenty : T (range double-small 20 (2 ^ 32 - 20))
-unfolding double-small rsqrtTab h p x t r
-last-twenty = tt
+last_twenty : T (range double_small 20 (2 ^ 32 - 20))
+unfolding double_small rsqrt_tab h p x t r
+last_twenty = tt
 
-double-at : (n : ℕ) → 2 ^ 62 ≤ n → n < 2 ^ 64 → 2 * hi 32 (r n) (h n) < 2 ^ 32
-unfolding double-small a
-double-at n low high = by_size (leb (2 ^ 32 - 20) (h n)) refl
+double_at : (n : ℕ) → 2 ^ 62 ≤ n → n < 2 ^ 64 → 2 * hi 32 (r n) (h n) < 2 ^ 32
+unfolding double_small a
+double_at n low high = by_size (leb (2 ^ 32 - 20) (h n)) refl
   where
     by_size : (t : Bool) → leb (2 ^ 32 - 20) (h n) ≡ t → 2 * hi 32 (r n) (h n) < 2 ^ 32
     by_size true e =
-        let tried = between double-small 20 (2 ^ 32 - 20) last-twenty (h n) (leb-true (2 ^ 32 - 20) (h n) e) (h-high n low high) in
+        let tried = between double_small 20 (2 ^ 32 - 20) last_twenty (h n) (leb-true (2 ^ 32 - 20) (h n) e) (h_high n low high) in
         subst (λ (z : ℕ). 2 * hi 32 z (h n) < 2 ^ 32) (same (h n * 2 ^ 32) n (struck n)).0
         (ltb→lt (2 * hi 32 (r (h n * 2 ^ 32)) (h n)) (2 ^ 32) tried)
     by_size false e =
         let l = leb-false (2 ^ 32 - 20) (h n) e in
-        let small = below square (a n) (2 ^ 32 - 10) (lt_of_le_of_lt (a-below figures (aimed n low high)) (omega arith)) in
+        let small = below square (a n) (2 ^ 32 - 10) (lt_of_le_of_lt (a_below figures (aimed n low high)) (omega arith)) in
         omega (arith, small)
 
 -- all of it holds
 pub safe : (n : ℕ) → 2 ^ 62 ≤ n → n < 2 ^ 64 → Safe n
 safe n low high =
-    let guess = guess-at n low high in
-    let step = step-at n low high in
+    let guess = guess_at n low high in
+    let step = step_at n low high in
     let later = second_at n low high in
     record {
       index = guess.place;
-      p-fits = guess.byte;
-      cube-fits = guess.cube-fits;
-      product-fits = omega (arith, guess.byte);
-      x-stays = omega (arith, step.fits);
-      x_fits = omega (arith, (x-at n low high).x-high);
-      t-stays = later.t-stays;
-      t-fits = later.t-fits;
-      r-fits = r-fits n low high;
-      double-fits = double-at n low high;
-      a-stays = (a_at n low high).0;
-      square-fits = le_trans (a-below figures (aimed n low high)) (aimed n low high).g-low;
+      p_fits = guess.byte;
+      cube_fits = guess.cube_fits;
+      product_fits = omega (arith, guess.byte);
+      x_stays = omega (arith, step.fits);
+      x_fits = omega (arith, (x_at n low high).x_high);
+      t_stays = later.t_stays;
+      t_fits = later.t_fits;
+      r_fits = r_fits n low high;
+      double_fits = double_at n low high;
+      a_stays = (a_at n low high).0;
+      square_fits = le_trans (a_below figures (aimed n low high)) (aimed n low high).g_low;
       quotient_fits = omega arith;
-      S-fits = below square (S n) (2 ^ 32) (lt_of_le_of_lt (near n low high).low high);
+      cell_start_fits = below square (cell_start n) (2 ^ 32) (lt_of_le_of_lt (near n low high).low high);
     }

@@ -8,16 +8,16 @@ use native.Mathlib.Omega.{arith}
 use lib.Dec.{lit≤}
 use Rattle.defs.specs.Kinds.{square}
 use Rattle.defs.specs.Starts.Letters.{guess}
-use Rattle.laws.proofs.Products.{guess-powers}
+use Rattle.laws.proofs.Products.{guess_powers}
 use Rattle.tables.proofs.Bracket.{bracketed}
-use Rattle.starts.proofs.Guesses.{in_table, guess-fits}
-use Rattle.starts.proofs.Newton.{never-large, never-small}
+use Rattle.starts.proofs.Guesses.{in_table, guess_fits}
+use Rattle.starts.proofs.Newton.{never_large, never_small}
 
 -- a guess p for g, with its place in the table: p² is near 2^48/g
 pub record Guessed (p g : ℕ) : Type 0 where
   pub place : (32 ≤ g / 2 ^ 25) × (g / 2 ^ 25 - 32 < 96)
   pub byte : p < 512
-  pub cube-fits : 32 * (p * p * p) < 2 ^ 32
+  pub cube_fits : 32 * (p * p * p) < 2 ^ 32
   pub low : 32 * 2 ^ 48 ≤ 33 * (p * p * g)
   pub high : 32 * (p * p * g) ≤ 33 * 2 ^ 48
 
@@ -32,12 +32,12 @@ guessed g low high =
     let i = g / 2 ^ 25 - 32 in
     let p = guess square i in
     let rule = bracketed square i (in_table square i (omega arith)) in
-    let byte : p < 512 = guess-fits square i (omega arith) in
+    let byte : p < 512 = guess_fits square i (omega arith) in
     let near = spread (p * p) i g rule.below rule.above (omega arith) (omega arith) in
     record {
       place = omega arith;
       byte = byte;
-      cube-fits = omega (arith, (guess-powers byte).1);
+      cube_fits = omega (arith, (guess_powers byte).1);
       low = near.0;
       high = near.1;
     }
@@ -45,8 +45,8 @@ guessed g low high =
 -- one step from p, y = q·p − p³·g/D: it does not go below 0, and y is near 32·√(m/g), at most one above it
 pub record Stepped (D q m p g y : ℕ) : Type 0 where
   pub fits : p * p * p * g / D ≤ q * p
-  pub not-above : (y - 1) * (y - 1) * g ≤ 1024 * m
-  pub hardly-below : 1023 * m ≤ y * y * g
+  pub not_above : (y - 1) * (y - 1) * g ≤ 1024 * m
+  pub hardly_below : 1023 * m ≤ y * y * g
 
 module _ (D q : ℕ) {p g y : ℕ} (some : 0 < D) (share : q * D ≡ 3 * 2 ^ 48) (at : Guessed p g) (is : y ≡ q * p - p * p * p * g / D) where
   -- the step before it is rounded, times D
@@ -54,14 +54,14 @@ module _ (D q : ℕ) {p g y : ℕ} (some : 0 < D) (share : q * D ≡ 3 * 2 ^ 48)
   exact = p * (3 * 2 ^ 48 - p * p * g)
 
   -- with no subtraction
-  exact-is : exact + p * p * p * g ≡ q * p * D
-  exact-is =
+  exact_is : exact + p * p * p * g ≡ q * p * D
+  exact_is =
       let inside : 3 * 2 ^ 48 - p * p * g + p * p * g ≡ 3 * 2 ^ 48 = sub-add_cancel (omega arith) in
       omega (arith, ap (λ (x : ℕ). p * x) inside, ap (λ (x : ℕ). p * x) share)
 
   -- y's subtraction does not go below 0
   step_fits : p * p * p * g / D ≤ q * p
-  step_fits = le_of_mul-le-mul_right (omega (arith, div-mul-le_self (p * p * p * g) D, exact-is)) some
+  step_fits = le_of_mul-le-mul_right (omega (arith, div-mul-le_self (p * p * p * g) D, exact_is)) some
 
   -- y with no subtraction, times D
   whole : y * D + p * p * p * g / D * D ≡ q * p * D
@@ -71,16 +71,16 @@ module _ (D q : ℕ) {p g y : ℕ} (some : 0 < D) (share : q * D ≡ 3 * 2 ^ 48)
 
   -- y is the exact step, rounded up or one above that
   rounded : ((y - 1) * D ≤ exact) × (exact ≤ y * D)
-  rounded = omega (arith, mul-sub D y 1, whole, exact-is, div-mul-le_self (p * p * p * g) D, lt-div-mul-add {a = p * p * p * g} some)
+  rounded = omega (arith, mul-sub D y 1, whole, exact_is, div-mul-le_self (p * p * p * g) D, lt-div-mul-add {a = p * p * p * g} some)
 
   -- Newton: y is neither too large nor too small
   pub stepped : (m : ℕ) → m * (D * D) ≡ 2 ^ 136 → Stepped D q m p g y
   stepped m squares = record {
     fits = step_fits;
-    not-above =
-        never-large square (y - 1) D p (2 ^ 48) g (1024 * m) some rounded.0
+    not_above =
+        never_large square (y - 1) D p (2 ^ 48) g (1024 * m) some rounded.0
         (rw (mul_assoc 1024 m (D * D), squares) (lit≤ tt));
-    hardly-below =
-        never-small square y D p (2 ^ 48) g (1023 * m) (2 ^ 53 / 33 + 1) (33 * 2 ^ 43) some rounded.1 (omega arith) (omega arith)
+    hardly_below =
+        never_small square y D p (2 ^ 48) g (1023 * m) (2 ^ 53 / 33 + 1) (33 * 2 ^ 43) some rounded.1 (omega arith) (omega arith)
         (rw (mul_assoc 1023 m (D * D), squares) (lit≤ tt)) (rw (mul_assoc 1023 m (D * D), squares) (lit≤ tt));
   }

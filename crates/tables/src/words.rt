@@ -2,7 +2,7 @@
 // look-up; a match of words of eight entries, each read at constant places, is folded by the compiler.
 ghost use Rattle.std.specs.Prelude.{◌≡◌, ◌+◌, ◌*◌, ◌/◌, ◌%◌, ◌^◌, ◌≤◌, ◌<◌, length, get_or};
 ghost use Rattle.defs.specs.Kinds.{square, cube};
-ghost use Rattle.defs.specs.Tables.{rsqrtTab, rcbrtTab};
+ghost use Rattle.defs.specs.Tables.{rsqrt_tab, rcbrt_tab};
 ghost use Rattle.defs.specs.Starts.Letters.{guess};
 ghost use Rattle.tables.specs.Words.{Holds};
 
@@ -40,7 +40,7 @@ fn word_of(t: &[u8], j: usize) -> u64
 
 // Word j of RSQRT_TAB, and 0 past its end.
 fn rsqrt_word(j: usize) -> u64
-    ensures { Holds result rsqrtTab j }
+    ensures { Holds result rsqrt_tab j }
 {
     let t: &[u8] = &RSQRT_TAB;
     match j {
@@ -62,7 +62,7 @@ fn rsqrt_word(j: usize) -> u64
 
 // Word j of RCBRT_TAB, and 0 past its end.
 fn rcbrt_word(j: usize) -> u64
-    ensures { Holds result rcbrtTab j }
+    ensures { Holds result rcbrt_tab j }
 {
     let t: &[u8] = &RCBRT_TAB;
     match j {

@@ -5,30 +5,30 @@ use mathlib.Core.List.{List, [], ◌∷◌}
 use Prim.Native.Nat.{ℕ}
 use borrow.Author.Tests.{not-true}
 use Rattle.defs.specs.Kinds.{Kind, square, cube}
-use Rattle.text.specs.Decimal.{textWithin, text_of}
+use Rattle.text.specs.Decimal.{text_within, text_of}
 use Rattle.text.specs.Reading.{read_of}
-use Rattle.text.specs.Request.{bad, line_of, asked_of, requestOf}
-use Rattle.text.specs.Examples.{badInputs}
+use Rattle.text.specs.Request.{bad, line_of, asked_of, request_of}
+use Rattle.text.specs.Examples.{bad_inputs}
 use Rattle.text.proofs.Asking.{refuses}
 
-abbrev noneGood : List (List ℕ) → Bool
-noneGood [] = true
-noneGood (s ∷ inputs) = not (requestOf s).ok && noneGood inputs
+abbrev none_good : List (List ℕ) → Bool
+none_good [] = true
+none_good (s ∷ inputs) = not (request_of s).ok && none_good inputs
 
 abbrev pub AllBad : List (List ℕ) → Type 0
 AllBad [] = Unit {0}
-AllBad (s ∷ inputs) = (requestOf s ≡ bad) × AllBad inputs
+AllBad (s ∷ inputs) = (request_of s ≡ bad) × AllBad inputs
 
-to-all : (inputs : List (List ℕ)) → noneGood inputs ≡ true → AllBad inputs
-to-all [] e = tt
-to-all (s ∷ inputs) e =
-    let parts = (and-eq-true_iff (not (requestOf s).ok) (noneGood inputs)).0 e in
-    (refuses s (not-true _ parts.0), to-all inputs parts.1)
+to_all : (inputs : List (List ℕ)) → none_good inputs ≡ true → AllBad inputs
+to_all [] e = tt
+to_all (s ∷ inputs) e =
+    let parts = (and-eq-true_iff (not (request_of s).ok) (none_good inputs)).0 e in
+    (refuses s (not-true _ parts.0), to_all inputs parts.1)
 
-tested : (k : Kind) → noneGood (badInputs k) ≡ true
-unfolding badInputs textWithin text_of read_of line_of asked_of requestOf
+tested : (k : Kind) → none_good (bad_inputs k) ≡ true
+unfolding bad_inputs text_within text_of read_of line_of asked_of request_of
 tested square = refl
 tested cube = refl
 
-pub all-bad : (k : Kind) → AllBad (badInputs k)
-all-bad k = to-all (badInputs k) (tested k)
+pub all_bad : (k : Kind) → AllBad (bad_inputs k)
+all_bad k = to_all (bad_inputs k) (tested k)

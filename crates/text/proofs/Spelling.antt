@@ -6,28 +6,28 @@ use native.Mathlib.Omega.{arith}
 use lib.ListN.{length, take, drop, set, length-append, length-drop, length-set, drop_of_length-le}
 use lib.Seq.{drop-cons, get_or-set_same, drop-set-lt, lt-length-set, take_all}
 use Rattle.text.specs.Decimal.{text_of}
-use Rattle.text.proofs.Texts.{text-short, text-long, text-some, text-length-64}
+use Rattle.text.proofs.Texts.{text_short, text_long, text_some, text_length_64}
 
 -- the digits from `from` on are the last of n, and those of `rest` are left
 pub record Spelled (n : ℕ) (text : List ℕ) (from rest : ℕ) : Type 0 where
-  pub is-long : length text ≡ 20
-  pub in-text : from ≤ 20
+  pub is_long : length text ≡ 20
+  pub in_text : from ≤ 20
   pub so_far : text_of rest ++ drop from text ≡ text_of n
 
-pub spell-begins : (n : ℕ) (text : List ℕ) → length text ≡ 20 → Spelled n text 20 n
-spell-begins n text h = record {
-  is-long = h;
-  in-text = omega arith;
+pub spell_begins : (n : ℕ) (text : List ℕ) → length text ≡ 20 → Spelled n text 20 n
+spell_begins n text h = record {
+  is_long = h;
+  in_text = omega arith;
   so_far = rw (drop_of_length-le text {i = 20} (omega arith)) (append-nil (text_of n));
 }
 
 -- there is room for one more digit
-pub spell-room : {n : ℕ} {text : List ℕ} {from rest : ℕ} → n < 2 ^ 64 → Spelled n text from rest → 1 ≤ from
-spell-room {n} {text} {from} {rest} h s =
-    omega (arith, s.is-long, s.in-text, text-some rest, text-length-64 n h, simp (length-append, length-drop) at (ap length s.so_far))
+pub spell_room : {n : ℕ} {text : List ℕ} {from rest : ℕ} → n < 2 ^ 64 → Spelled n text from rest → 1 ≤ from
+spell_room {n} {text} {from} {rest} h s =
+    omega (arith, s.is_long, s.in_text, text_some rest, text_length_64 n h, simp (length-append, length-drop) at (ap length s.so_far))
 
-pub spell-place : {n : ℕ} {text : List ℕ} {from rest : ℕ} → n < 2 ^ 64 → Spelled n text from rest → from - 1 < length text
-spell-place h s = omega (arith, spell-room h s, s.is-long, s.in-text)
+pub spell_place : {n : ℕ} {text : List ℕ} {from rest : ℕ} → n < 2 ^ 64 → Spelled n text from rest → from - 1 < length text
+spell_place h s = omega (arith, spell_room h s, s.is_long, s.in_text)
 
 -- a digit stored in front of the others
 stored : (text : List ℕ) (from d : ℕ) → 1 ≤ from → from ≤ length text → drop (from - 1) (set text (from - 1) d) ≡ d ∷ drop from text
@@ -39,24 +39,24 @@ stored text from d h k =
     ∙ rw (get_or-set_same text j d 0 inside, drop-set-lt (suc j) text j d (omega arith), next)
 
 -- with the next digit d put in front
-pub spell-on : {n : ℕ} {text : List ℕ} {from rest d : ℕ} → n < 2 ^ 64 → 9 < rest → d ≡ 48 + rest % 10 → Spelled n text from rest →
+pub spell_on : {n : ℕ} {text : List ℕ} {from rest d : ℕ} → n < 2 ^ 64 → 9 < rest → d ≡ 48 + rest % 10 → Spelled n text from rest →
     Spelled n (set text (from - 1) d) (from - 1) (rest / 10)
-spell-on {n} {text} {from} {rest} {d} small h e s = record {
-  is-long = length-set text (from - 1) _ ∙ s.is-long;
-  in-text = omega (arith, s.in-text);
-  so_far = rw (e, stored text from (48 + rest % 10) (spell-room small s) (omega (arith, s.is-long, s.in-text)))
+spell_on {n} {text} {from} {rest} {d} small h e s = record {
+  is_long = length-set text (from - 1) _ ∙ s.is_long;
+  in_text = omega (arith, s.in_text);
+  so_far = rw (e, stored text from (48 + rest % 10) (spell_room small s) (omega (arith, s.is_long, s.in_text)))
       (sym (append_assoc (text_of (rest / 10)) ((48 + rest % 10) ∷ []) (drop from text))
-      ∙ ap (λ (l : List ℕ). l ++ drop from text) (sym (text-long rest h))
+      ∙ ap (λ (l : List ℕ). l ++ drop from text) (sym (text_long rest h))
       ∙ s.so_far);
 }
 
-pub spell-ends : {n : ℕ} {text : List ℕ} {from rest d : ℕ} → n < 2 ^ 64 → rest ≤ 9 → d ≡ 48 + rest → Spelled n text from rest →
+pub spell_ends : {n : ℕ} {text : List ℕ} {from rest d : ℕ} → n < 2 ^ 64 → rest ≤ 9 → d ≡ 48 + rest → Spelled n text from rest →
     drop (from - 1) (set text (from - 1) d) ≡ text_of n
-spell-ends {n} {text} {from} {rest} {d} small h e s =
-    ap (λ (b : ℕ). drop (from - 1) (set text (from - 1) b)) e ∙ stored text from (48 + rest) (spell-room small s) (omega (arith, s.is-long, s.in-text))
-    ∙ ap (λ (l : List ℕ). l ++ drop from text) (sym (text-short rest (omega arith))) ∙ s.so_far
+spell_ends {n} {text} {from} {rest} {d} small h e s =
+    ap (λ (b : ℕ). drop (from - 1) (set text (from - 1) b)) e ∙ stored text from (48 + rest) (spell_room small s) (omega (arith, s.is_long, s.in_text))
+    ∙ ap (λ (l : List ℕ). l ++ drop from text) (sym (text_short rest (omega arith))) ∙ s.so_far
 
 -- the part of the text from the first digit on is the digits
-pub digits-part : (text : List ℕ) (from : ℕ) {digits : List ℕ} → length text ≡ 20 → drop from text ≡ digits →
+pub digits_part : (text : List ℕ) (from : ℕ) {digits : List ℕ} → length text ≡ 20 → drop from text ≡ digits →
     take (20 - from) (drop from text) ≡ digits
-digits-part text from h e = take_all (20 - from) (drop from text) (omega (arith, length-drop from text)) ∙ e
+digits_part text from h e = take_all (20 - from) (drop from text) (omega (arith, length-drop from text)) ∙ e

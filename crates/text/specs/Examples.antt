@@ -1,4 +1,4 @@
--- Inputs that are near a good request and are none. That each is answered as bad is the theorem `all-bad`.
+-- Inputs that are near a good request and are none. That each is answered as bad is the theorem `all_bad`.
 use Rattle.std.specs.Prelude.{List, [], ◌∷◌, ◌++◌, ℕ, ◌-◌, length, get_or, take, drop, replicate}
 use Rattle.defs.specs.Kinds.{Kind}
 use Rattle.text.specs.Decimal.{text_of}
@@ -14,8 +14,8 @@ asking k text = word_of k ++ (text ++ newline)
 
 -- in this order: nothing; no newline; two newlines; a space after the newline; a carriage return; two spaces; a tab for the space; no digits;
 -- eleven zeros; eleven digits; a value too great, by one and by much; two signs; a NUL; a capital
-unfoldable pub badInputs : Kind → List (List ℕ)
-badInputs k =
+unfoldable pub bad_inputs : Kind → List (List ℕ)
+bad_inputs k =
     [] ∷
     (word_of k ++ text_of 4) ∷
     (asking k (text_of 4) ++ newline) ∷

@@ -5,10 +5,10 @@ use Rattle.text.specs.declared.read.Decimal.{Decimal}
 
 -- the text is 1 to d digits, leading zeros counted, whose value v is at most m
 pub record Reads (s : List ℕ) (d m v : ℕ) : Type 0 where
-  pub some-digit : 1 ≤ length s
-  pub few-digits : length s ≤ d
+  pub some_digit : 1 ≤ length s
+  pub few_digits : length s ≤ d
   pub all_digits : IsDigits s
-  pub is-value : value_of s ≡ v
+  pub is_value : value_of s ≡ v
   pub small : v ≤ m
 
 -- an answer: the value, or no value and 0
@@ -17,17 +17,17 @@ answer true v = record { ok = true; value = v }
 answer false v = record { ok = false; value = 0 }
 
 -- the byte is a digit, as a test
-abbrev pub isDigit : ℕ → Bool
-isDigit b = leb 48 b && leb b 57
+abbrev pub is_digit : ℕ → Bool
+is_digit b = leb 48 b && leb b 57
 
 -- every byte of the text is a digit, as a test
-abbrev pub allDigits : List ℕ → Bool
-allDigits [] = true
-allDigits (b ∷ s) = isDigit b && allDigits s
+abbrev pub is_digits : List ℕ → Bool
+is_digits [] = true
+is_digits (b ∷ s) = is_digit b && is_digits s
 
 -- the text is 1 to d digits whose value is at most m, as a test
 abbrev pub readable : List ℕ → ℕ → ℕ → Bool
-readable s d m = leb 1 (length s) && (leb (length s) d && (allDigits s && leb (value_of s) m))
+readable s d m = leb 1 (length s) && (leb (length s) d && (is_digits s && leb (value_of s) m))
 
 -- what a reader answers. That it gives the value v exactly if the text `Reads` with v are the theorems `accepts` and `accepted`
 unfoldable pub read_of : List ℕ → ℕ → ℕ → Decimal
@@ -35,4 +35,4 @@ read_of s d m = answer (readable s d m) (value_of s)
 
 -- the value v with one digit more behind it, if the byte is a digit and the new value is at most m
 unfoldable pub next_of : ℕ → ℕ → ℕ → Decimal
-next_of v b m = answer (isDigit b && leb (pushed v b) m) (pushed v b)
+next_of v b m = answer (is_digit b && leb (pushed v b) m) (pushed v b)

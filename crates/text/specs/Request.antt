@@ -11,9 +11,9 @@ word_of square = 115 ∷ 113 ∷ 117 ∷ 97 ∷ 114 ∷ 101 ∷ 32 ∷ []
 word_of cube = 99 ∷ 117 ∷ 98 ∷ 101 ∷ 32 ∷ []
 
 -- the kind as the answer's bool
-abbrev pub isCube : Kind → Bool
-isCube square = false
-isCube cube = true
+abbrev pub is_cube : Kind → Bool
+is_cube square = false
+is_cube cube = true
 
 -- the bool as a kind
 abbrev pub kind_of : Bool → Kind
@@ -43,10 +43,10 @@ abbrev pub good : Bool → ℕ → Request
 good c v = record { ok = true; cube = c; value = v }
 
 -- the first bytes of s are those of the word
-abbrev pub startsWith : List ℕ → List ℕ → Bool
-startsWith [] s = true
-startsWith (a ∷ word) [] = false
-startsWith (a ∷ word) (b ∷ s) = eqb b a && startsWith word s
+abbrev pub starts_with : List ℕ → List ℕ → Bool
+starts_with [] s = true
+starts_with (a ∷ word) [] = false
+starts_with (a ∷ word) (b ∷ s) = eqb b a && starts_with word s
 
 -- a request from the number that was read
 abbrev pub numbered : Bool → Decimal → Request
@@ -58,10 +58,10 @@ line_of c t = cond (eqb (get_or t (length t - 1) 0) 10) (numbered c (number_of (
 
 -- what the whole input asks, if it starts with the word of the kind
 unfoldable pub asked_of : List ℕ → Bool → List ℕ → Request
-asked_of word c s = cond (startsWith word s) (line_of c (drop (length word) s)) bad
+asked_of word c s = cond (starts_with word s) (line_of c (drop (length word) s)) bad
 
 -- what the whole input asks. That it gives the kind and the value exactly if the input `Asks` for them are the theorems `answers` and `asks`
-unfoldable pub requestOf : List ℕ → Request
-requestOf s =
+unfoldable pub request_of : List ℕ → Request
+request_of s =
     let first : Request = asked_of (word_of square) false s in
     cond first.ok first (asked_of (word_of cube) true s)

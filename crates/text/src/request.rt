@@ -1,6 +1,6 @@
 // The request line of the program `root`.
 ghost use Rattle.std.specs.Prelude.{◌≡◌};
-ghost use Rattle.text.specs.Request.{startsWith, asked_of, requestOf};
+ghost use Rattle.text.specs.Request.{starts_with, asked_of, request_of};
 
 use crate::read::read_decimal;
 
@@ -14,7 +14,7 @@ pub struct Request {
 
 // Whether the first bytes of `s` are those of `word`.
 pub fn starts_with(s: &[u8], word: &[u8]) -> bool
-    ensures { result ≡ startsWith word.now s.now }
+    ensures { result ≡ starts_with word.now s.now }
 {
     let mut i = 0;
     while i < word.len() {
@@ -62,7 +62,7 @@ fn asked(s: &[u8], word: &[u8], cube: bool) -> Request
 
 // What the whole input asks for.
 pub fn request_of(s: &[u8]) -> Request
-    ensures { result ≡ requestOf s.now }
+    ensures { result ≡ request_of s.now }
 {
     let square = asked(s, b"square ", false);
     if square.ok {

@@ -11,8 +11,8 @@ invariant-loop list count₀ at₀ t7 t8 count at = count ≤ at
 abbrev decreases-loop : tie.decreases-loop
 decreases-loop list count₀ at₀ t7 t8 count at = length list - at
 
-pub compare-spec : {M : Type 1} → statement M
-compare-spec =
+pub compare_spec : {M : Type 1} → statement M
+compare_spec =
     tie.close
     (tie.spec
     invariant-loop

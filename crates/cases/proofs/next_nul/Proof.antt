@@ -11,8 +11,8 @@ invariant-loop list from i₀ i = from ≤ i
 abbrev decreases-loop : tie.decreases-loop
 decreases-loop list from i₀ i = length list - i
 
-pub next-nul-spec : {M : Type 1} → statement M
-next-nul-spec =
+pub next_nul_spec : {M : Type 1} → statement M
+next_nul_spec =
     tie.close
     (tie.spec
     invariant-loop

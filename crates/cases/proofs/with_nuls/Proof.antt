@@ -18,8 +18,8 @@ decreases-loop input to₀ i₀ to i = length input - i
 counts : (n : ℕ) (xs : List ℕ) → n ≤ length xs → IsPrefixLen n xs
 counts n xs h = (h, simp length-take (omega arith))
 
-pub with-nuls-spec : {M : Type 1} → statement M
-with-nuls-spec =
+pub with_nuls_spec : {M : Type 1} → statement M
+with_nuls_spec =
     tie.close
     (tie.spec
     invariant-loop

@@ -15,5 +15,5 @@ d n = cond (top n) 16 4
 unfoldable pub r : ℕ → ℕ
 r n = guess cube (q n - 8)
 
-unfoldable pub S : ℕ → ℕ
-S n = r n * r n / d n * n / 2 ^ 24 - 1
+unfoldable pub cell_start : ℕ → ℕ
+cell_start n = r n * r n / d n * n / 2 ^ 24 - 1

@@ -23,5 +23,5 @@ y n = p n * t n / 3 / 16
 unfoldable pub r : ℕ → ℕ
 r n = cond (top n) (y n / 2) (y n) - 10
 
-unfoldable pub S : ℕ → ℕ
-S n = r n * (r n * (n / 2 ^ 16) / 2 ^ 16) / 2 ^ 16 / 4
+unfoldable pub cell_start : ℕ → ℕ
+cell_start n = r n * (r n * (n / 2 ^ 16) / 2 ^ 16) / 2 ^ 16 / 4

@@ -26,5 +26,5 @@ y n = hi 32 (x n) (t n) / 3
 unfoldable pub r : ℕ → ℕ
 r n = cond (top n) (y n / 2) (y n) - 1
 
-unfoldable pub S : ℕ → ℕ
-S n = hi 32 (r n) (hi 32 (r n) (n / 2 ^ 32))
+unfoldable pub cell_start : ℕ → ℕ
+cell_start n = hi 32 (r n) (hi 32 (r n) (n / 2 ^ 32))

@@ -6,5 +6,5 @@ use Rattle.defs.specs.Starts.Letters.{guess}
 unfoldable pub r : ℕ → ℕ
 r n = guess square (n / 512 - 32)
 
-unfoldable pub S : ℕ → ℕ
-S n = r n * n / 2 ^ 16 - 1
+unfoldable pub cell_start : ℕ → ℕ
+cell_start n = r n * n / 2 ^ 16 - 1

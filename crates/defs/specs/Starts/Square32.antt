@@ -16,5 +16,5 @@ r n = 2 * (96 * p n - p n * p n * p n * n / 2 ^ 43)
 unfoldable pub a : ℕ → ℕ
 a n = min (2 * (r n * h n / 2 ^ 16)) 65535 - 4
 
-unfoldable pub S : ℕ → ℕ
-S n = a n + (n - a n * a n) / 2 ^ 16 * r n / 2 ^ 16
+unfoldable pub cell_start : ℕ → ℕ
+cell_start n = a n + (n - a n * a n) / 2 ^ 16 * r n / 2 ^ 16

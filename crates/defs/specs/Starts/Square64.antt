@@ -22,5 +22,5 @@ r n = 16 * hi 32 (x n) (t n)
 unfoldable pub a : ℕ → ℕ
 a n = 2 * hi 32 (r n) (h n) - 10
 
-unfoldable pub S : ℕ → ℕ
-S n = a n + hi 32 ((n - a n * a n) / 2 ^ 32) (r n)
+unfoldable pub cell_start : ℕ → ℕ
+cell_start n = a n + hi 32 ((n - a n * a n) / 2 ^ 32) (r n)

@@ -5,27 +5,27 @@ use native.Mathlib.Omega.{arith}
 use borrow.Author.Rules.{rules}
 use Rattle.defs.specs.Kinds.{cube}
 use Rattle.laws.proofs.Powers.{rises}
-use Rattle.laws.proofs.Products.{product-below}
+use Rattle.laws.proofs.Products.{product_below}
 use Rattle.rebuild.proofs.cube_beyond.Statement.{statement}
 use Rattle.rebuild.proofs.cube_beyond.Tie as tie
 
-third-is-q : tie.Need-returns-3
-third-is-q c =
+third_is_q : tie.Need-returns-3
+third_is_q c =
     let s = c.before.before.before in
     omega (arith, rises cube s.requires, s.ranges.top.fits)
 
-below-q : tie.Need-returns-4
-below-q c =
+below_q : tie.Need-returns-4
+below_q c =
     let s = c.before.before in
     omega (arith, rises cube s.requires, s.ranges.top.fits)
 
-pub cube-beyond-spec : {M : Type 1} → statement M
-cube-beyond-spec =
+pub cube_beyond_spec : {M : Type 1} → statement M
+cube_beyond_spec =
     tie.close
     (tie.spec
-    (λ c. record { fits = product-below 32 c.ranges.root.fits c.ranges.root.fits })
+    (λ c. record { fits = product_below 32 c.ranges.root.fits c.ranges.root.fits })
     (λ c. omega (arith, mul-le-mul_left c.args.root (le_of_suc-le-suc c.ranges.root.fits)))
     (λ c. search rules)
     (λ c. search rules)
-    third-is-q
-    below-q)
+    third_is_q
+    below_q)

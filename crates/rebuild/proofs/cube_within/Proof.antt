@@ -12,8 +12,8 @@ use Rattle.rebuild.proofs.cube_within.Tie as tie
 fitting : {r : ℕ} → r ≤ 2642245 → (r * r * r < 2 ^ 64) × (3 * (r * r) + 3 * r < 2 ^ 64)
 fitting h = (omega (arith, rises cube h), omega (arith, mul-le-mul h h))
 
-pub cube-within-spec : {M : Type 1} → statement M
-cube-within-spec =
+pub cube_within_spec : {M : Type 1} → statement M
+cube_within_spec =
     tie.close
     (tie.spec
     (λ c κs. search rules)

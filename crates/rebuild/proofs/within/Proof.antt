@@ -3,8 +3,8 @@ use borrow.Author.Rules.{rules}
 use Rattle.rebuild.proofs.within.Statement.{statement}
 use Rattle.rebuild.proofs.within.Tie as tie
 
-pub within-spec : {M : Type 1} → statement M
-within-spec =
+pub within_spec : {M : Type 1} → statement M
+within_spec =
     tie.close
     (tie.spec
     (λ c. search rules)

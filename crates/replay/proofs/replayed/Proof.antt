@@ -9,8 +9,8 @@ invariant-loop run i₀ i = Unit {0}
 abbrev decreases-loop : tie.decreases-loop
 decreases-loop run i₀ i = run.count - i
 
-pub replayed-spec : {M : Type 1} → statement M
-replayed-spec =
+pub replayed_spec : {M : Type 1} → statement M
+replayed_spec =
     tie.close
     (tie.spec
     invariant-loop

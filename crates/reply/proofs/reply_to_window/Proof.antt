@@ -31,8 +31,8 @@ whole c =
     let else = called.before.before in
     replied (long else.before) (rw (filled else) called.reply2.ensures)
 
-pub reply-to-window-spec : {M : Type 1} → statement M
-reply-to-window-spec =
+pub reply_to_window_spec : {M : Type 1} → statement M
+reply_to_window_spec =
     tie.close
     (tie.spec
     in_window

@@ -4,10 +4,10 @@ use Rattle.defs.specs.Kinds.{cube}
 use Rattle.root8.proofs.cbrt_rem.Statement.{statement}
 use Rattle.root8.proofs.cbrt_rem.Tie as tie
 
-pub cbrt-rem-spec : {M : Type 1} → statement M
-cbrt-rem-spec =
+pub cbrt_rem_spec : {M : Type 1} → statement M
+cbrt_rem_spec =
     tie.close
     (tie.spec
     (λ c κs. search rules)
     (λ c κs. search rules)
-    (λ c. c.billed8.ensures cube c.before.before.args.n c.before.fix-cbrt-error8.ensures))
+    (λ c. c.billed8.ensures cube c.before.before.args.n c.before.fix_cbrt_error8.ensures))

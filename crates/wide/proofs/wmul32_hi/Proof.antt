@@ -1,14 +1,14 @@
 -- `wide::wmul32_hi` meets its contract: the law of products, at 32 bits. Assumes nothing.
 use native.Mathlib.Omega.{arith}
 use borrow.Author.Rules.{rules}
-use Rattle.laws.proofs.Products.{product-below}
+use Rattle.laws.proofs.Products.{product_below}
 use Rattle.wide.proofs.wmul32_hi.Statement.{statement}
 use Rattle.wide.proofs.wmul32_hi.Tie as tie
 
-pub wmul32-hi-spec : {M : Type 1} → statement M
-wmul32-hi-spec =
+pub wmul32_hi_spec : {M : Type 1} → statement M
+wmul32_hi_spec =
     tie.close
     (tie.spec
-    (λ c. record { fits = product-below 32 c.ranges.a.fits c.ranges.b.fits })
-    (λ c. omega (arith, product-below 32 c.ranges.a.fits c.ranges.b.fits))
+    (λ c. record { fits = product_below 32 c.ranges.a.fits c.ranges.b.fits })
+    (λ c. omega (arith, product_below 32 c.ranges.a.fits c.ranges.b.fits))
     (λ c. search rules))

@@ -14,23 +14,23 @@ abbrev decreases-loop : tie.decreases-loop
 decreases-loop values roots₀ budget done₀ spent₀ roots done spent = length values - done
 
 -- the next value costs more than what is left
-stops-short : tie.Need-returns invariant-loop decreases-loop
-stops-short c =
+stops_short : tie.Need-returns invariant-loop decreases-loop
+stops_short c =
     let call = c.before.before in
-    ends call.before.before.before.loop.invariant (λ more. omega (arith, call.sqrt-rem.ensures.is-steps))
+    ends call.before.before.before.loop.invariant (λ more. omega (arith, call.sqrt_rem.ensures.is_steps))
 
 loop-again : tie.Need-loop-preserved invariant-loop decreases-loop
 loop-again c =
     let call = c.before.before in
     let turn = call.before.before in
-    goes_on turn.before.before.before.before.requires turn.before.loop.invariant turn.loop-test.true call.sqrt-rem.ensures (omega arith)
+    goes_on turn.before.before.before.before.requires turn.before.loop.invariant turn.loop-test.true call.sqrt_rem.ensures (omega arith)
 
 -- no value is left
 finishes : tie.Need-returns-2 invariant-loop decreases-loop
 finishes c = ends c.before.loop.invariant (λ more. omega arith)
 
-pub run-part-spec : {M : Type 1} → statement M
-run-part-spec =
+pub run_part_spec : {M : Type 1} → statement M
+run_part_spec =
     tie.close
     (tie.spec
     invariant-loop
@@ -42,7 +42,7 @@ run-part-spec =
     (λ c. search rules)
     (λ c. search rules)
     (λ c. search rules)
-    stops-short
+    stops_short
     (λ c. search rules)
     (λ c. search rules)
     (λ c. search rules)

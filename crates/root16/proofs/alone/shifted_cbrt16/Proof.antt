@@ -2,7 +2,7 @@
 use native.Mathlib.Omega.{arith}
 use borrow.Author.Rules.{rules}
 use Rattle.defs.specs.Kinds.{cube, u16}
-use Rattle.laws.proofs.Full.{root-back-of}
+use Rattle.laws.proofs.Full.{root_back_of}
 use Rattle.root16.proofs.alone.shifted_cbrt16.Statement.{statement}
 use Rattle.root16.proofs.alone.shifted_cbrt16.Tie as tie
 
@@ -10,10 +10,10 @@ returns : tie.Need-returns
 returns c =
     let f = c.before in
     let n = f.before.before.before in
-    root-back-of cube u16 tt n.requires n.ranges.n.fits f.before.before.third-cbrt16.ensures f.fix-cbrt-error16.ensures.root-rem.is-root (omega arith)
+    root_back_of cube u16 tt n.requires n.ranges.n.fits f.before.before.third_cbrt16.ensures f.fix_cbrt_error16.ensures.root_rem.is_root (omega arith)
 
-pub shifted-cbrt16-spec : {M : Type 1} → statement M
-shifted-cbrt16-spec =
+pub shifted_cbrt16_spec : {M : Type 1} → statement M
+shifted_cbrt16_spec =
     tie.close
     (tie.spec
     (λ c κs. search rules)

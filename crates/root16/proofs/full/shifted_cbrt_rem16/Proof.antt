@@ -5,25 +5,25 @@ use native.Mathlib.Omega.{arith}
 use borrow.Author.Rules.{rules}
 use Rattle.defs.specs.Kinds.{cube, u16}
 use Rattle.defs.specs.Roots.{IsRoot}
-use Rattle.laws.proofs.Full.{root-back-of, answer_back}
+use Rattle.laws.proofs.Full.{root_back_of, answer_back}
 use Rattle.root16.proofs.full.shifted_cbrt_rem16.Statement.{statement}
 use Rattle.root16.proofs.full.shifted_cbrt_rem16.Tie as tie
 
 -- the root, shifted back
-is-root : (c : tie.After-fix-cbrt-error16) → IsRoot cube c.before.before.before.args.n (c.fix-cbrt-error16.result.root / 2 ^ c.before.before.third-cbrt16.result)
-is-root c =
+is_root : (c : tie.After-fix-cbrt-error16) → IsRoot cube c.before.before.before.args.n (c.fix_cbrt_error16.result.root / 2 ^ c.before.before.third_cbrt16.result)
+is_root c =
     let n = c.before.before.before in
-    root-back-of cube u16 tt n.requires n.ranges.n.fits c.before.before.third-cbrt16.ensures c.fix-cbrt-error16.ensures.root-rem.is-root refl
+    root_back_of cube u16 tt n.requires n.ranges.n.fits c.before.before.third_cbrt16.ensures c.fix_cbrt_error16.ensures.root_rem.is_root refl
 
 returns : tie.Need-returns
 returns c =
     let f = c.before in
     let n = f.before.before.before in
-    answer_back cube u16 tt n.requires n.ranges.n.fits f.before.before.third-cbrt16.ensures f.before.start-cbrt16.ensures f.fix-cbrt-error16.ensures
+    answer_back cube u16 tt n.requires n.ranges.n.fits f.before.before.third_cbrt16.ensures f.before.start_cbrt16.ensures f.fix_cbrt_error16.ensures
     (omega arith) (omega (arith, c.cube16.ensures))
 
-pub shifted-cbrt-rem16-spec : {M : Type 1} → statement M
-shifted-cbrt-rem16-spec =
+pub shifted_cbrt_rem16_spec : {M : Type 1} → statement M
+shifted_cbrt_rem16_spec =
     tie.close
     (tie.spec
     (λ c κs. search rules)
@@ -34,6 +34,6 @@ shifted-cbrt-rem16-spec =
     (λ c κs. search rules)
     (λ c. search rules)
     (λ c. search rules)
-    (λ c κs. omega (arith, (is-root c).ranges, c.before.before.before.ranges.n.fits))
-    (λ c. omega (arith, c.cube16.ensures, (is-root c.before).fits))
+    (λ c κs. omega (arith, (is_root c).ranges, c.before.before.before.ranges.n.fits))
+    (λ c. omega (arith, c.cube16.ensures, (is_root c.before).fits))
     returns)

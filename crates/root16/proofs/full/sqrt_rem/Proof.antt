@@ -2,23 +2,23 @@
 use native.Mathlib.Omega.{arith}
 use borrow.Author.Rules.{rules}
 use Rattle.defs.specs.Kinds.{square, u16}
-use Rattle.laws.proofs.Bills.{full-zero}
-use Rattle.laws.proofs.Full.{own-answer}
+use Rattle.laws.proofs.Bills.{full_zero}
+use Rattle.laws.proofs.Full.{own_answer}
 use Rattle.root16.proofs.full.sqrt_rem.Statement.{statement}
 use Rattle.root16.proofs.full.sqrt_rem.Tie as tie
 
 own : tie.Need-returns
 own c =
     let t = c.before.before in
-    own-answer square u16 tt (omega (arith, t.if1.true)) t.before.ranges.n.fits c.before.start-sqrt16.ensures c.fix-sqrt-error16.ensures
+    own_answer square u16 tt (omega (arith, t.if1.true)) t.before.ranges.n.fits c.before.start_sqrt16.ensures c.fix_sqrt_error16.ensures
 
-pub sqrt-rem-spec : {M : Type 1} → statement M
-sqrt-rem-spec =
+pub sqrt_rem_spec : {M : Type 1} → statement M
+sqrt_rem_spec =
     tie.close
     (tie.spec
     (λ c κs. search rules)
     (λ c κs. search rules)
     own
-    (λ c. full-zero square u16 c.if2.true)
+    (λ c. full_zero square u16 c.if2.true)
     (λ c κs. search rules)
     (λ c. search rules))

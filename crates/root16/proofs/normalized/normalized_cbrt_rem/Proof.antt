@@ -6,10 +6,10 @@ use Rattle.starts.proofs.Calls.{answers}
 use Rattle.root16.proofs.normalized.normalized_cbrt_rem.Statement.{statement}
 use Rattle.root16.proofs.normalized.normalized_cbrt_rem.Tie as tie
 
-from-bound : tie.Need-returns-2
-from-bound c =
+from_bound : tie.Need-returns-2
+from_bound c =
     let t = c.before.before in
-    answers cube u16 (omega (arith, t.if1.false)) t.before.ranges.n.fits c.before.start-cbrt16.ensures c.fix-cbrt-error16.ensures
+    answers cube u16 (omega (arith, t.if1.false)) t.before.ranges.n.fits c.before.start_cbrt16.ensures c.fix_cbrt_error16.ensures
 
-pub normalized-cbrt-rem-spec : {M : Type 1} → statement M
-normalized-cbrt-rem-spec = tie.close (tie.spec (λ c. search rules) (λ c κs. search rules) (λ c κs. search rules) from-bound)
+pub normalized_cbrt_rem_spec : {M : Type 1} → statement M
+normalized_cbrt_rem_spec = tie.close (tie.spec (λ c. search rules) (λ c κs. search rules) (λ c κs. search rules) from_bound)

@@ -10,5 +10,5 @@ returns : tie.Need-returns
 unfolding shift_of
 returns c = shifts cube u16 tt c.requires c.ranges.n.fits (omega arith) (omega arith)
 
-pub third-cbrt16-spec : {M : Type 1} → statement M
-third-cbrt16-spec = tie.close (tie.spec returns)
+pub third_cbrt16_spec : {M : Type 1} → statement M
+third_cbrt16_spec = tie.close (tie.spec returns)

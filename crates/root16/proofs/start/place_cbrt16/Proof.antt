@@ -8,9 +8,9 @@ top_set : tie.Need-returns
 unfolding top q
 top_set c = rw (le-leb 32768 c.before.args.n c.if1.true)
 
-top-clear : tie.Need-returns-2
+top_clear : tie.Need-returns-2
 unfolding top q
-top-clear c = rw (lt-leb 32768 c.before.args.n c.if1.false)
+top_clear c = rw (lt-leb 32768 c.before.args.n c.if1.false)
 
-pub place-cbrt16-spec : {M : Type 1} → statement M
-place-cbrt16-spec = tie.close (tie.spec top_set top-clear)
+pub place_cbrt16_spec : {M : Type 1} → statement M
+place_cbrt16_spec = tie.close (tie.spec top_set top_clear)

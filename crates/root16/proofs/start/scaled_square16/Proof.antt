@@ -10,15 +10,15 @@ top_set : tie.Need-returns
 unfolding top d
 top_set c = rw (le-leb 32768 c.before.args.n c.if1.true)
 
-top-clear : tie.Need-returns-2
+top_clear : tie.Need-returns-2
 unfolding top d
-top-clear c = rw (lt-leb 32768 c.before.args.n c.if1.false)
+top_clear c = rw (lt-leb 32768 c.before.args.n c.if1.false)
 
-pub scaled-square16-spec : {M : Type 1} → statement M
-scaled-square16-spec =
+pub scaled_square16_spec : {M : Type 1} → statement M
+scaled_square16_spec =
     tie.close
     (tie.spec
     (λ c. omega (arith, mul-le-mul (le_of_lt c.before.requires) (le_of_lt c.before.requires)))
     (λ c. omega (arith, mul-le-mul (le_of_lt c.before.requires) (le_of_lt c.before.requires)))
     top_set
-    top-clear)
+    top_clear)

@@ -2,7 +2,7 @@
 use native.Mathlib.Omega.{arith}
 use borrow.Author.Rules.{rules}
 use Rattle.defs.specs.Kinds.{cube, u32}
-use Rattle.laws.proofs.Full.{root-back-of}
+use Rattle.laws.proofs.Full.{root_back_of}
 use Rattle.root32.proofs.alone.shifted_cbrt32.Statement.{statement}
 use Rattle.root32.proofs.alone.shifted_cbrt32.Tie as tie
 
@@ -10,10 +10,10 @@ returns : tie.Need-returns
 returns c =
     let f = c.before in
     let n = f.before.before.before in
-    root-back-of cube u32 tt n.requires n.ranges.n.fits f.before.before.third-cbrt32.ensures f.fix-cbrt-error32.ensures.root-rem.is-root (omega arith)
+    root_back_of cube u32 tt n.requires n.ranges.n.fits f.before.before.third_cbrt32.ensures f.fix_cbrt_error32.ensures.root_rem.is_root (omega arith)
 
-pub shifted-cbrt32-spec : {M : Type 1} → statement M
-shifted-cbrt32-spec =
+pub shifted_cbrt32_spec : {M : Type 1} → statement M
+shifted_cbrt32_spec =
     tie.close
     (tie.spec
     (λ c κs. search rules)

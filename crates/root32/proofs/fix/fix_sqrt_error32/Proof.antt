@@ -2,7 +2,7 @@
 use native.Mathlib.Omega.{arith}
 use borrow.Author.Rules.{rules}
 use Rattle.defs.specs.Kinds.{square, u32}
-use Rattle.laws.proofs.FixUp.{Walk, begins, goes_on, ends, walk-fits}
+use Rattle.laws.proofs.FixUp.{Walk, begins, goes_on, ends, walk_fits}
 use Rattle.root32.proofs.fix.fix_sqrt_error32.Statement.{statement}
 use Rattle.root32.proofs.fix.fix_sqrt_error32.Tie as tie
 
@@ -12,8 +12,8 @@ invariant-loop n start s₀ e₀ gap₀ s e gap = Walk square u32 n start s e ga
 abbrev decreases-loop : tie.decreases-loop
 decreases-loop n start s₀ e₀ gap₀ s e gap = e
 
-pub fix-sqrt-error32-spec : {M : Type 1} → statement M
-fix-sqrt-error32-spec =
+pub fix_sqrt_error32_spec : {M : Type 1} → statement M
+fix_sqrt_error32_spec =
     tie.close
     (tie.spec
     invariant-loop
@@ -21,10 +21,10 @@ fix-sqrt-error32-spec =
     (λ c κs. search rules)
     (λ c. omega (arith, c.before.requires, c.square32.ensures))
     (λ c. omega arith)
-    (λ c. omega (arith, walk-fits (begins square u32 c.before.requires c.before.ranges.n.fits)))
+    (λ c. omega (arith, walk_fits (begins square u32 c.before.requires c.before.ranges.n.fits)))
     (λ c. rw c.square32.ensures (begins square u32 c.before.requires c.before.ranges.n.fits))
-    (λ c. omega (arith, walk-fits (goes_on c.before.loop.invariant c.loop-test.true)))
-    (λ c. omega (arith, walk-fits (goes_on c.before.loop.invariant c.loop-test.true)))
+    (λ c. omega (arith, walk_fits (goes_on c.before.loop.invariant c.loop-test.true)))
+    (λ c. omega (arith, walk_fits (goes_on c.before.loop.invariant c.loop-test.true)))
     (λ c. omega arith)
     (λ c. goes_on c.before.loop.invariant c.loop-test.true)
     (λ c. omega arith)

@@ -5,25 +5,25 @@ use native.Mathlib.Omega.{arith}
 use borrow.Author.Rules.{rules}
 use Rattle.defs.specs.Kinds.{square, u32}
 use Rattle.defs.specs.Roots.{IsRoot}
-use Rattle.laws.proofs.Full.{root-back-of, answer_back}
+use Rattle.laws.proofs.Full.{root_back_of, answer_back}
 use Rattle.root32.proofs.full.shifted_sqrt_rem32.Statement.{statement}
 use Rattle.root32.proofs.full.shifted_sqrt_rem32.Tie as tie
 
 -- the root, shifted back
-is-root : (c : tie.After-fix-sqrt-error32) → IsRoot square c.before.before.before.args.n (c.fix-sqrt-error32.result.root / 2 ^ (c.before.before.shift-sqrt32.result / 2))
-is-root c =
+is_root : (c : tie.After-fix-sqrt-error32) → IsRoot square c.before.before.before.args.n (c.fix_sqrt_error32.result.root / 2 ^ (c.before.before.shift_sqrt32.result / 2))
+is_root c =
     let n = c.before.before.before in
-    root-back-of square u32 tt n.requires n.ranges.n.fits c.before.before.shift-sqrt32.ensures c.fix-sqrt-error32.ensures.root-rem.is-root refl
+    root_back_of square u32 tt n.requires n.ranges.n.fits c.before.before.shift_sqrt32.ensures c.fix_sqrt_error32.ensures.root_rem.is_root refl
 
 returns : tie.Need-returns
 returns c =
     let f = c.before in
     let n = f.before.before.before in
-    answer_back square u32 tt n.requires n.ranges.n.fits f.before.before.shift-sqrt32.ensures f.before.start-sqrt32.ensures f.fix-sqrt-error32.ensures
+    answer_back square u32 tt n.requires n.ranges.n.fits f.before.before.shift_sqrt32.ensures f.before.start_sqrt32.ensures f.fix_sqrt_error32.ensures
     (omega arith) (omega (arith, c.square32.ensures))
 
-pub shifted-sqrt-rem32-spec : {M : Type 1} → statement M
-shifted-sqrt-rem32-spec =
+pub shifted_sqrt_rem32_spec : {M : Type 1} → statement M
+shifted_sqrt_rem32_spec =
     tie.close
     (tie.spec
     (λ c κs. search rules)
@@ -33,5 +33,5 @@ shifted-sqrt-rem32-spec =
     (λ c. search rules)
     (λ c. search rules)
     (λ c κs. search rules)
-    (λ c. omega (arith, c.square32.ensures, (is-root c.before).fits))
+    (λ c. omega (arith, c.square32.ensures, (is_root c.before).fits))
     returns)

@@ -11,5 +11,5 @@ returns : tie.Need-returns
 unfolding shift_of
 returns c = shifts square u32 tt c.requires c.ranges.n.fits refl refl
 
-pub shift-sqrt32-spec : {M : Type 1} → statement M
-shift-sqrt32-spec = tie.close (tie.spec (λ c. search rules) returns)
+pub shift_sqrt32_spec : {M : Type 1} → statement M
+shift_sqrt32_spec = tie.close (tie.spec (λ c. search rules) returns)

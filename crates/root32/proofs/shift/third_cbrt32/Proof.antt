@@ -10,5 +10,5 @@ returns : tie.Need-returns
 unfolding shift_of
 returns c = shifts cube u32 tt c.requires c.ranges.n.fits (omega arith) (omega arith)
 
-pub third-cbrt32-spec : {M : Type 1} → statement M
-third-cbrt32-spec = tie.close (tie.spec returns)
+pub third_cbrt32_spec : {M : Type 1} → statement M
+third_cbrt32_spec = tie.close (tie.spec returns)

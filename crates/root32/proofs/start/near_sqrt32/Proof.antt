@@ -10,15 +10,15 @@ sub-result : tie.Need-overflow-sub-result
 unfolding h
 sub-result c =
     let s = c.before.before in
-    rw (c.saturating-double16.ensures, c.before.wmul16-hi.ensures, s.requires.1)
-    (omega (arith, (safe s.args.n s.requires.0 s.ranges.n.fits).a-stays))
+    rw (c.saturating_double16.ensures, c.before.wmul16-hi.ensures, s.requires.1)
+    (omega (arith, (safe s.args.n s.requires.0 s.ranges.n.fits).a_stays))
 
 returns : tie.Need-returns
 unfolding h a
-returns c = rw (c.saturating-double16.ensures, c.before.wmul16-hi.ensures, c.before.before.requires.1)
+returns c = rw (c.saturating_double16.ensures, c.before.wmul16-hi.ensures, c.before.before.requires.1)
 
-pub near-sqrt32-spec : {M : Type 1} → statement M
-near-sqrt32-spec =
+pub near_sqrt32_spec : {M : Type 1} → statement M
+near_sqrt32_spec =
     tie.close
     (tie.spec
     (λ c. search rules)

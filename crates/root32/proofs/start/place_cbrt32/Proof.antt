@@ -10,9 +10,9 @@ top_set : tie.Need-returns
 unfolding top g
 top_set c = rw (le-leb (2 ^ 30) c.before.args.n c.if1.true)
 
-top-clear : tie.Need-returns-2
+top_clear : tie.Need-returns-2
 unfolding top g
-top-clear c = rw (lt-leb (2 ^ 30) c.before.args.n c.if1.false)
+top_clear c = rw (lt-leb (2 ^ 30) c.before.args.n c.if1.false)
 
-pub place-cbrt32-spec : {M : Type 1} → statement M
-place-cbrt32-spec = tie.close (tie.spec (λ c. search rules) (λ c. search rules) top_set top-clear)
+pub place_cbrt32_spec : {M : Type 1} → statement M
+place_cbrt32_spec = tie.close (tie.spec (λ c. search rules) (λ c. search rules) top_set top_clear)

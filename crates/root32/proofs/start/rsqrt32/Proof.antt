@@ -4,7 +4,7 @@ use Prim.Native.Nat.{ℕ, ◌+◌, ◌*◌, ◌/◌, ◌^◌}
 use native.Mathlib.Omega.{arith}
 use borrow.Author.Rules.{rules}
 use Rattle.defs.specs.Starts.Square32.{h, p, r}
-use Rattle.laws.proofs.Products.{guess-powers}
+use Rattle.laws.proofs.Products.{guess_powers}
 use Rattle.starts.proofs.Square32.{Safe, safe}
 use Rattle.root32.proofs.start.rsqrt32.Statement.{statement}
 use Rattle.root32.proofs.start.rsqrt32.Tie as tie
@@ -21,23 +21,23 @@ cast-step : tie.Need-overflow-cast-step
 unfolding h p
 cast-step c =
     let s = safe_at c.before.before in
-    rw (c.wmul32-hi.ensures, step, c.before.rsqrt-guess.ensures.0)
-    (omega (arith, s.step_fits, s.product-fits))
+    rw (c.wmul32-hi.ensures, step, c.before.rsqrt_guess.ensures.0)
+    (omega (arith, s.step_fits, s.product_fits))
 
 sub-result : tie.Need-overflow-sub-result
 unfolding h p
 sub-result c =
-    rw (c.wmul32-hi.ensures, step, c.before.rsqrt-guess.ensures.0) (safe_at c.before.before).step_fits
+    rw (c.wmul32-hi.ensures, step, c.before.rsqrt_guess.ensures.0) (safe_at c.before.before).step_fits
 
 mul-result : tie.Need-overflow-mul-result-2
 unfolding h p r
 mul-result c =
-    rw (c.wmul32-hi.ensures, step, c.before.rsqrt-guess.ensures.0)
-    (record { fits = (safe_at c.before.before).r-fits })
+    rw (c.wmul32-hi.ensures, step, c.before.rsqrt_guess.ensures.0)
+    (record { fits = (safe_at c.before.before).r_fits })
 
 returns : tie.Need-returns
 unfolding h p r
-returns c = rw (c.wmul32-hi.ensures, step, c.before.rsqrt-guess.ensures.0)
+returns c = rw (c.wmul32-hi.ensures, step, c.before.rsqrt_guess.ensures.0)
 
 pub rsqrt32-spec : {M : Type 1} → statement M
 rsqrt32-spec =
@@ -46,8 +46,8 @@ rsqrt32-spec =
     (λ c. search rules)
     (λ c. search rules)
     (λ c κs. search rules)
-    (λ c. omega (arith, guess-powers c.rsqrt-guess.ensures.1))
-    (λ c. omega (arith, guess-powers c.rsqrt-guess.ensures.1))
+    (λ c. omega (arith, guess_powers c.rsqrt_guess.ensures.1))
+    (λ c. omega (arith, guess_powers c.rsqrt_guess.ensures.1))
     (λ c κs. search rules)
     cast-step
     (λ c. search rules)

@@ -1,7 +1,7 @@
 -- `root32::start::start_sqrt32` meets its contract: it is S of the scope document, letter by letter. Assumes nothing.
 use borrow.Author.Rules.{rules}
 use Rattle.defs.specs.Kinds.{square, u32}
-use Rattle.defs.specs.Starts.Square32.{S}
+use Rattle.defs.specs.Starts.Square32.{cell_start}
 use Rattle.starts.proofs.Calls.{starts}
 use Rattle.starts.proofs.Square32.{Safe, safe}
 use Rattle.root32.proofs.start.start_sqrt32.Statement.{statement}
@@ -12,25 +12,25 @@ safe_at : (c : tie.Start) → Safe c.args.n
 safe_at c = safe c.args.n c.requires c.ranges.n.fits
 
 sub-e : tie.Need-overflow-sub-e
-sub-e c = rw (c.square32.ensures, c.before.near-sqrt32.ensures) (safe_at c.before.before.before).square-fits
+sub-e c = rw (c.square32.ensures, c.before.near_sqrt32.ensures) (safe_at c.before.before.before).square_fits
 
 add-result : tie.Need-overflow-add-result
-unfolding S
+unfolding cell_start
 add-result c =
     let e = c.before in
-    rw (c.wmul16-hi.ensures, e.square32.ensures, e.before.near-sqrt32.ensures, e.before.before.rsqrt32.ensures)
-    (record { fits = (safe_at e.before.before.before).S-fits })
+    rw (c.wmul16-hi.ensures, e.square32.ensures, e.before.near_sqrt32.ensures, e.before.before.rsqrt32.ensures)
+    (record { fits = (safe_at e.before.before.before).cell_start_fits })
 
 returns : tie.Need-returns
-unfolding S
+unfolding cell_start
 returns c =
     let e = c.before in
     let s = e.before.before.before in
     starts square u32 s.requires s.ranges.n.fits
-    (rw (c.wmul16-hi.ensures, e.square32.ensures, e.before.near-sqrt32.ensures, e.before.before.rsqrt32.ensures))
+    (rw (c.wmul16-hi.ensures, e.square32.ensures, e.before.near_sqrt32.ensures, e.before.before.rsqrt32.ensures))
 
-pub start-sqrt32-spec : {M : Type 1} → statement M
-start-sqrt32-spec =
+pub start_sqrt32_spec : {M : Type 1} → statement M
+start_sqrt32_spec =
     tie.close
     (tie.spec
     (λ c κs. search rules)

@@ -2,7 +2,7 @@
 use native.Mathlib.Omega.{arith}
 use borrow.Author.Rules.{rules}
 use Rattle.defs.specs.Kinds.{cube, u64}
-use Rattle.laws.proofs.Full.{root-back-of}
+use Rattle.laws.proofs.Full.{root_back_of}
 use Rattle.root64.proofs.alone.shifted_cbrt64.Statement.{statement}
 use Rattle.root64.proofs.alone.shifted_cbrt64.Tie as tie
 
@@ -10,10 +10,10 @@ returns : tie.Need-returns
 returns c =
     let f = c.before in
     let n = f.before.before.before in
-    root-back-of cube u64 tt n.requires n.ranges.n.fits f.before.before.third-cbrt64.ensures f.fix-cbrt-error64.ensures.root-rem.is-root (omega arith)
+    root_back_of cube u64 tt n.requires n.ranges.n.fits f.before.before.third_cbrt64.ensures f.fix_cbrt_error64.ensures.root_rem.is_root (omega arith)
 
-pub shifted-cbrt64-spec : {M : Type 1} → statement M
-shifted-cbrt64-spec =
+pub shifted_cbrt64_spec : {M : Type 1} → statement M
+shifted_cbrt64_spec =
     tie.close
     (tie.spec
     (λ c κs. search rules)

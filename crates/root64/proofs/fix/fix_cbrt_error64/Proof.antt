@@ -3,7 +3,7 @@ use native.Mathlib.Nat.{lt_of_le_of_lt}
 use native.Mathlib.Omega.{arith}
 use borrow.Author.Rules.{rules}
 use Rattle.defs.specs.Kinds.{cube, u64}
-use Rattle.laws.proofs.FixUp.{Walk, begins, goes_on, ends, walk-fits}
+use Rattle.laws.proofs.FixUp.{Walk, begins, goes_on, ends, walk_fits}
 use Rattle.root64.proofs.fix.fix_cbrt_error64.Statement.{statement}
 use Rattle.root64.proofs.fix.fix_cbrt_error64.Tie as tie
 
@@ -13,8 +13,8 @@ invariant-loop n start c₀ e₀ gap₀ c e gap = Walk cube u64 n start c e gap
 abbrev decreases-loop : tie.decreases-loop
 decreases-loop n start c₀ e₀ gap₀ c e gap = e
 
-pub fix-cbrt-error64-spec : {M : Type 1} → statement M
-fix-cbrt-error64-spec =
+pub fix_cbrt_error64_spec : {M : Type 1} → statement M
+fix_cbrt_error64_spec =
     tie.close
     (tie.spec
     invariant-loop
@@ -22,14 +22,14 @@ fix-cbrt-error64-spec =
     (λ c κs. lt_of_le_of_lt c.requires c.ranges.n.fits)
     (λ c. omega (arith, c.before.requires, c.cube64.ensures))
     (λ c κs. search rules)
-    (λ c. omega (arith, c.square64.ensures, walk-fits (begins cube u64 c.before.before.requires c.before.before.ranges.n.fits)))
-    (λ c. omega (arith, c.square64.ensures, walk-fits (begins cube u64 c.before.before.requires c.before.before.ranges.n.fits)))
-    (λ c. omega (arith, c.square64.ensures, walk-fits (begins cube u64 c.before.before.requires c.before.before.ranges.n.fits)))
+    (λ c. omega (arith, c.square64.ensures, walk_fits (begins cube u64 c.before.before.requires c.before.before.ranges.n.fits)))
+    (λ c. omega (arith, c.square64.ensures, walk_fits (begins cube u64 c.before.before.requires c.before.before.ranges.n.fits)))
+    (λ c. omega (arith, c.square64.ensures, walk_fits (begins cube u64 c.before.before.requires c.before.before.ranges.n.fits)))
     (λ c. rw (c.square64.ensures, c.before.cube64.ensures) (begins cube u64 c.before.before.requires c.before.before.ranges.n.fits))
-    (λ c. omega (arith, walk-fits (goes_on c.before.loop.invariant c.loop-test.true)))
-    (λ c. omega (arith, walk-fits (goes_on c.before.loop.invariant c.loop-test.true)))
-    (λ c. omega (arith, walk-fits (goes_on c.before.loop.invariant c.loop-test.true)))
-    (λ c. omega (arith, walk-fits (goes_on c.before.loop.invariant c.loop-test.true)))
+    (λ c. omega (arith, walk_fits (goes_on c.before.loop.invariant c.loop-test.true)))
+    (λ c. omega (arith, walk_fits (goes_on c.before.loop.invariant c.loop-test.true)))
+    (λ c. omega (arith, walk_fits (goes_on c.before.loop.invariant c.loop-test.true)))
+    (λ c. omega (arith, walk_fits (goes_on c.before.loop.invariant c.loop-test.true)))
     (λ c. omega arith)
     (λ c. goes_on c.before.loop.invariant c.loop-test.true)
     (λ c. omega arith)

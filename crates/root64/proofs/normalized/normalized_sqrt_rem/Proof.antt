@@ -6,10 +6,10 @@ use Rattle.starts.proofs.Calls.{answers}
 use Rattle.root64.proofs.normalized.normalized_sqrt_rem.Statement.{statement}
 use Rattle.root64.proofs.normalized.normalized_sqrt_rem.Tie as tie
 
-from-bound : tie.Need-returns-2
-from-bound c =
+from_bound : tie.Need-returns-2
+from_bound c =
     let t = c.before.before in
-    answers square u64 (omega (arith, t.if1.false)) t.before.ranges.n.fits c.before.start-sqrt64.ensures c.fix-sqrt-error64.ensures
+    answers square u64 (omega (arith, t.if1.false)) t.before.ranges.n.fits c.before.start_sqrt64.ensures c.fix_sqrt_error64.ensures
 
-pub normalized-sqrt-rem-spec : {M : Type 1} → statement M
-normalized-sqrt-rem-spec = tie.close (tie.spec (λ c. search rules) (λ c κs. search rules) (λ c κs. search rules) from-bound)
+pub normalized_sqrt_rem_spec : {M : Type 1} → statement M
+normalized_sqrt_rem_spec = tie.close (tie.spec (λ c. search rules) (λ c κs. search rules) (λ c κs. search rules) from_bound)

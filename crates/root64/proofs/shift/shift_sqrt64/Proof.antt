@@ -11,5 +11,5 @@ returns : tie.Need-returns
 unfolding shift_of
 returns c = shifts square u64 tt c.requires c.ranges.n.fits refl refl
 
-pub shift-sqrt64-spec : {M : Type 1} → statement M
-shift-sqrt64-spec = tie.close (tie.spec (λ c. search rules) returns)
+pub shift_sqrt64_spec : {M : Type 1} → statement M
+shift_sqrt64_spec = tie.close (tie.spec (λ c. search rules) returns)

@@ -10,5 +10,5 @@ returns : tie.Need-returns
 unfolding shift_of
 returns c = shifts cube u64 tt c.requires c.ranges.n.fits (omega arith) (omega arith)
 
-pub third-cbrt64-spec : {M : Type 1} → statement M
-third-cbrt64-spec = tie.close (tie.spec returns)
+pub third_cbrt64_spec : {M : Type 1} → statement M
+third_cbrt64_spec = tie.close (tie.spec returns)

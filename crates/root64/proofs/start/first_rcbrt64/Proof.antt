@@ -3,7 +3,7 @@ use Prim.Native.Nat.{◌+◌}
 use native.Mathlib.Omega.{arith}
 use borrow.Author.Rules.{rules}
 use Rattle.defs.specs.Starts.Cube64.{p, x}
-use Rattle.laws.proofs.Products.{guess-powers}
+use Rattle.laws.proofs.Products.{guess_powers}
 use Rattle.starts.proofs.Cube64.{Safe, safe}
 use Rattle.root64.proofs.start.first_rcbrt64.Statement.{statement}
 use Rattle.root64.proofs.start.first_rcbrt64.Tie as tie
@@ -17,27 +17,27 @@ sub-rcbrt-guess c = rw c.requires.1 (safe_at c).from_first
 
 sub-result : tie.Need-overflow-sub-result
 unfolding p
-sub-result c = rw (c.wmul32-hi.ensures, c.before.rcbrt-guess.ensures.0, c.before.before.requires.1) (safe_at c.before.before).first_fits
+sub-result c = rw (c.wmul32-hi.ensures, c.before.rcbrt_guess.ensures.0, c.before.before.requires.1) (safe_at c.before.before).first_fits
 
 mul-result : tie.Need-overflow-mul-result
 unfolding p x
 mul-result c =
-    rw (c.wmul32-hi.ensures, c.before.rcbrt-guess.ensures.0, c.before.before.requires.1)
+    rw (c.wmul32-hi.ensures, c.before.rcbrt_guess.ensures.0, c.before.before.requires.1)
     (record { fits = (safe_at c.before.before).x_fits })
 
 returns : tie.Need-returns
 unfolding p x
-returns c = rw (c.wmul32-hi.ensures, c.before.rcbrt-guess.ensures.0, c.before.before.requires.1)
+returns c = rw (c.wmul32-hi.ensures, c.before.rcbrt_guess.ensures.0, c.before.before.requires.1)
 
-pub first-rcbrt64-spec : {M : Type 1} → statement M
-first-rcbrt64-spec =
+pub first_rcbrt64_spec : {M : Type 1} → statement M
+first_rcbrt64_spec =
     tie.close
     (tie.spec
     (λ c. search rules)
     sub-rcbrt-guess
     (λ c κs. search rules)
-    (λ c. omega (arith, guess-powers c.rcbrt-guess.ensures.1))
-    (λ c. omega (arith, guess-powers c.rcbrt-guess.ensures.1))
+    (λ c. omega (arith, guess_powers c.rcbrt_guess.ensures.1))
+    (λ c. omega (arith, guess_powers c.rcbrt_guess.ensures.1))
     (λ c κs. search rules)
     sub-result
     mul-result

@@ -25,9 +25,9 @@ top_set : tie.Need-returns
 unfolding top r
 top_set c = rw (c.before.requires.1, le-leb (2 ^ 63) c.before.args.n c.if1.true)
 
-top-clear : tie.Need-returns-2
+top_clear : tie.Need-returns-2
 unfolding top r
-top-clear c = rw (c.before.requires.1, lt-leb (2 ^ 63) c.before.args.n c.if1.false)
+top_clear c = rw (c.before.requires.1, lt-leb (2 ^ 63) c.before.args.n c.if1.false)
 
-pub lowered-cbrt64-spec : {M : Type 1} → statement M
-lowered-cbrt64-spec = tie.close (tie.spec sub-result sub-result-2 top_set top-clear)
+pub lowered_cbrt64_spec : {M : Type 1} → statement M
+lowered_cbrt64_spec = tie.close (tie.spec sub-result sub-result-2 top_set top_clear)

@@ -12,16 +12,16 @@ safe_at c = safe c.args.n c.requires.0 c.ranges.n.fits
 
 mul-result : tie.Need-overflow-mul-result
 unfolding h
-mul-result c = rw (c.wmul32-hi.ensures, c.before.requires.1) (record { fits = (safe_at c.before).double-fits })
+mul-result c = rw (c.wmul32-hi.ensures, c.before.requires.1) (record { fits = (safe_at c.before).double_fits })
 
 sub-result : tie.Need-overflow-sub-result
 unfolding h
-sub-result c = rw (c.wmul32-hi.ensures, c.before.requires.1) (omega (arith, (safe_at c.before).a-stays))
+sub-result c = rw (c.wmul32-hi.ensures, c.before.requires.1) (omega (arith, (safe_at c.before).a_stays))
 
 returns : tie.Need-returns
 unfolding h a
 returns c = rw (c.wmul32-hi.ensures, c.before.requires.1)
 
-pub near-sqrt64-spec : {M : Type 1} → statement M
-near-sqrt64-spec =
+pub near_sqrt64_spec : {M : Type 1} → statement M
+near_sqrt64_spec =
     tie.close (tie.spec (λ c. search rules) (λ c κs. search rules) mul-result sub-result returns)

@@ -9,14 +9,14 @@ sub-t : tie.Need-overflow-sub-t
 sub-t c =
     let w = c.before.before.before in
     let s = w.before.before in
-    rw (c.wmul32-hi3.ensures, c.before.wmul32-hi2.ensures, c.before.before.wmul32-hi.ensures, w.first-rcbrt64.ensures, w.before.place-cbrt64.ensures)
+    rw (c.wmul32-hi3.ensures, c.before.wmul32-hi2.ensures, c.before.before.wmul32-hi.ensures, w.first_rcbrt64.ensures, w.before.place_cbrt64.ensures)
     (safe s.args.n s.requires s.ranges.n.fits).second_fits
 
 returns : tie.Need-returns
 unfolding t y
 returns c =
     let w = c.before.before.before.before in
-    rw (c.wmul32-hi4.ensures, c.before.wmul32-hi3.ensures, c.before.before.wmul32-hi2.ensures, c.before.before.before.wmul32-hi.ensures, w.first-rcbrt64.ensures, w.before.place-cbrt64.ensures)
+    rw (c.wmul32-hi4.ensures, c.before.wmul32-hi3.ensures, c.before.before.wmul32-hi2.ensures, c.before.before.before.wmul32-hi.ensures, w.first_rcbrt64.ensures, w.before.place_cbrt64.ensures)
 
 pub rcbrt64-spec : {M : Type 1} → statement M
 rcbrt64-spec =

@@ -10,14 +10,14 @@ unfolding h
 sub-t c =
     let s = c.before.before in
     rw (c.wmul32-hi2.ensures, c.before.wmul32-hi.ensures, s.requires.1)
-    (safe s.args.n s.requires.0 s.ranges.n.fits).t-stays
+    (safe s.args.n s.requires.0 s.ranges.n.fits).t_stays
 
 mul-result : tie.Need-overflow-mul-result
 unfolding h t r
 mul-result c =
     let s = c.before.before.before in
     rw (c.wmul32-hi3.ensures, c.before.wmul32-hi2.ensures, c.before.before.wmul32-hi.ensures, s.requires.1)
-    (record { fits = (safe s.args.n s.requires.0 s.ranges.n.fits).r-fits })
+    (record { fits = (safe s.args.n s.requires.0 s.ranges.n.fits).r_fits })
 
 returns : tie.Need-returns
 unfolding h t r

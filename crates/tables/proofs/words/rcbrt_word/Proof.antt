@@ -1,24 +1,24 @@
 -- `tables::words::rcbrt_word` meets its contract: each arm is its table's word, and past the last there is none. Assumes nothing.
 use mathlib.Core.Path.{refl}
 use borrow.Author.Rules.{rules}
-use Rattle.defs.specs.Tables.{rcbrtTab}
+use Rattle.defs.specs.Tables.{rcbrt_tab}
 use Rattle.tables.proofs.Held.{past}
 use Rattle.tables.proofs.words.rcbrt_word.Statement.{statement}
 use Rattle.tables.proofs.words.rcbrt_word.Tie as tie
 
-pub rcbrt-word-spec : {M : Type 1} → statement M
-unfolding rcbrtTab
-rcbrt-word-spec =
+pub rcbrt_word_spec : {M : Type 1} → statement M
+unfolding rcbrt_tab
+rcbrt_word_spec =
     tie.close
     (tie.spec
     (λ c. search rules)
     (λ c κs. search rules) (λ c κs. search rules) (λ c κs. search rules) (λ c κs. search rules)
     (λ c κs. search rules) (λ c κs. search rules) (λ c κs. search rules)
     (λ c. rw c.before.match.keys1 c.word_of.ensures)
-    (λ c. rw c.before.match.keys2 c.word-of2.ensures)
-    (λ c. rw c.before.match.keys3 c.word-of3.ensures)
-    (λ c. rw c.before.match.keys4 c.word-of4.ensures)
-    (λ c. rw c.before.match.keys5 c.word-of5.ensures)
-    (λ c. rw c.before.match.keys6 c.word-of6.ensures)
-    (λ c. rw c.before.match.keys7 c.word-of7.ensures)
-    (λ c. past rcbrtTab 7 c.before.before.args.j refl c.match.rest))
+    (λ c. rw c.before.match.keys2 c.word_of2.ensures)
+    (λ c. rw c.before.match.keys3 c.word_of3.ensures)
+    (λ c. rw c.before.match.keys4 c.word_of4.ensures)
+    (λ c. rw c.before.match.keys5 c.word_of5.ensures)
+    (λ c. rw c.before.match.keys6 c.word_of6.ensures)
+    (λ c. rw c.before.match.keys7 c.word_of7.ensures)
+    (λ c. past rcbrt_tab 7 c.before.before.args.j refl c.match.rest))

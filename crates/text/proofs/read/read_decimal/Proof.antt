@@ -5,30 +5,30 @@ use Prim.Native.Nat.{◌-◌}
 use borrow.Author.Rules.{rules}
 use borrow.Author.Tests.{not-true, not-false}
 use lib.ListN.{length}
-use Rattle.text.proofs.Reading.{too_short, too_long, Walk, walk_begins, walk-on, walk-stops, walk_ends}
+use Rattle.text.proofs.Reading.{too_short, too_long, Walk, walk_begins, walk_on, walk_stops, walk_ends}
 use Rattle.text.proofs.read.read_decimal.Statement.{statement}
 use Rattle.text.proofs.read.read_decimal.Tie as tie
 
 abbrev invariant-loop : tie.invariant-loop
-invariant-loop s most-digits most none value₀ i₀ value i = Walk s most-digits most i value
+invariant-loop s most_digits most none value₀ i₀ value i = Walk s most_digits most i value
 
 abbrev decreases-loop : tie.decreases-loop
-decreases-loop s most-digits most none value₀ i₀ value i = length s - i
+decreases-loop s most_digits most none value₀ i₀ value i = length s - i
 
 no_digit : tie.Need-returns-3 invariant-loop decreases-loop
 no_digit c =
     let at_next = c.before.before in
     let at_test = at_next.before.before in
-    sym (walk-stops at_test.before.loop.invariant at_test.loop-test.true at_next.next-value.ensures (not-true _ c.if3.true))
+    sym (walk_stops at_test.before.loop.invariant at_test.loop-test.true at_next.next_value.ensures (not-true _ c.if3.true))
 
 loop-again : tie.Need-loop-preserved invariant-loop decreases-loop
 loop-again c =
     let at_next = c.before.before in
     let at_test = at_next.before.before in
-    walk-on at_test.before.loop.invariant at_test.loop-test.true at_next.next-value.ensures (not-false _ c.if3.false)
+    walk_on at_test.before.loop.invariant at_test.loop-test.true at_next.next_value.ensures (not-false _ c.if3.false)
 
-pub read-decimal-spec : {M : Type 1} → statement M
-read-decimal-spec =
+pub read_decimal_spec : {M : Type 1} → statement M
+read_decimal_spec =
     tie.close
     (tie.spec
     invariant-loop

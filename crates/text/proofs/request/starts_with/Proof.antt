@@ -3,7 +3,7 @@ use mathlib.Core.Path.{sym}
 use Prim.Native.Nat.{◌-◌}
 use borrow.Author.Rules.{rules}
 use lib.ListN.{length}
-use Rattle.text.proofs.Requests.{Matches, match-begins, match-on, match-short, match-differs, match-ends}
+use Rattle.text.proofs.Requests.{Matches, match_begins, match_on, match_short, match_differs, match_ends}
 use Rattle.text.proofs.request.starts_with.Statement.{statement}
 use Rattle.text.proofs.request.starts_with.Tie as tie
 
@@ -14,25 +14,25 @@ abbrev decreases-loop : tie.decreases-loop
 decreases-loop s word i₀ i = length word - i
 
 too_short : tie.Need-returns invariant-loop decreases-loop
-too_short c = sym (match-short c.before.before.loop.invariant c.before.loop-test.true c.if1.true)
+too_short c = sym (match_short c.before.before.loop.invariant c.before.loop-test.true c.if1.true)
 
 differs : tie.Need-returns-2 invariant-loop decreases-loop
 differs c =
     let at_test = c.before.before.before.before in
-    sym (match-differs at_test.before.loop.invariant at_test.loop-test.true c.before.before.before.if1.false c.if2.true)
+    sym (match_differs at_test.before.loop.invariant at_test.loop-test.true c.before.before.before.if1.false c.if2.true)
 
 loop-again : tie.Need-loop-preserved invariant-loop decreases-loop
 loop-again c =
     let at_test = c.before.before.before.before in
-    match-on at_test.before.loop.invariant at_test.loop-test.true c.before.before.before.if1.false c.if2.false
+    match_on at_test.before.loop.invariant at_test.loop-test.true c.before.before.before.if1.false c.if2.false
 
-pub starts-with-spec : {M : Type 1} → statement M
-starts-with-spec =
+pub starts_with_spec : {M : Type 1} → statement M
+starts_with_spec =
     tie.close
     (tie.spec
     invariant-loop
     decreases-loop
-    (λ c. match-begins _ _)
+    (λ c. match_begins _ _)
     too_short
     (λ c. search rules)
     (λ c. search rules)
@@ -40,4 +40,4 @@ starts-with-spec =
     (λ c. search rules)
     (λ c. search rules)
     loop-again
-    (λ c. sym (match-ends c.before.loop.invariant c.loop-test.false)))
+    (λ c. sym (match_ends c.before.loop.invariant c.loop-test.false)))
