@@ -1,4 +1,6 @@
 // Square roots of a part of a slice of u32 values, under a budget of fix-up steps.
+#![tactic(auto)]
+
 mod run;
 
 ghost use Rattle.std.specs.Prelude.{◌≡◌};

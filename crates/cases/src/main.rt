@@ -1,6 +1,8 @@
 // Feeds `reply` the inputs of a list and compares what it answers with the answers that the list has.
 // The list, on standard input, has texts in pairs, an input and its whole answer, with a NUL after each. In an input the
 // byte 1 stands for a NUL of its own. An input has at most 4096 bytes, and the list less than 65536.
+#![tactic(auto)]
+
 ghost use Rattle.std.specs.Prelude.{◌≤◌};
 ghost use Rattle.io.specs.Counts.{IsPrefixLen};
 

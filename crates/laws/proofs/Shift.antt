@@ -62,14 +62,17 @@ degree_small cube = (lit< tt, lit≤ tt)
 
 lifted : (k : Kind) (w : Width) → Wide w → (n : ℕ) → 0 < n → n < 2 ^ bits_of w → Lifted (degree k) (bits_of w) n (shift_of k w n)
 unfolding shift_of
+lifted k u8 v n p h = elim v [ ]
 lifted k u16 v n p h = lift (degree k) 16 n (degree_small k).0 (omega (arith, (degree_small k).1)) p h
 lifted k u32 v n p h = lift (degree k) 32 n (degree_small k).0 (omega (arith, (degree_small k).1)) p h
 lifted k u64 v n p h = lift (degree k) 64 n (degree_small k).0 (omega (arith, (degree_small k).1)) p h
 
 bound_is : (k : Kind) (w : Width) → Wide w → 2 ^ (bits_of w - degree k) ≡ bound k w
+bound_is square u8 v = elim v [ ]
 bound_is square u16 v = refl
 bound_is square u32 v = refl
 bound_is square u64 v = refl
+bound_is cube u8 v = elim v [ ]
 bound_is cube u16 v = refl
 bound_is cube u32 v = refl
 bound_is cube u64 v = refl
@@ -89,9 +92,11 @@ shift_multiple k u32 n = multiple (degree k) (count_leading_zeros 32 n) (degree_
 shift_multiple k u64 n = multiple (degree k) (count_leading_zeros 64 n) (degree_small k).0
 
 half_of_bits : (k : Kind) (w : Width) (s : ℕ) → Wide w → s < bits_of w → s / degree k < root_bits w
+half_of_bits square u8 s v h = elim v [ ]
 half_of_bits square u16 s v h = omega arith
 half_of_bits square u32 s v h = omega arith
 half_of_bits square u64 s v h = omega arith
+half_of_bits cube u8 s v h = elim v [ ]
 half_of_bits cube u16 s v h = omega arith
 half_of_bits cube u32 s v h = omega arith
 half_of_bits cube u64 s v h = omega arith

@@ -1,6 +1,8 @@
 // The value that a root and its remainder come from, at each width and of each kind. A pair that is no root's answer is
 // refused: 5 where the remainder is above what the root can leave, 6 where the value is above the width's maximum.
 // Everything is worked out at 64 bits, whatever the root's own width.
+#![tactic(auto)]
+
 ghost use Rattle.std.specs.Prelude.{◌<◌};
 ghost use Rattle.defs.specs.Kinds.{square, cube, pow, u8, u16, u32, u64};
 ghost use Rattle.defs.specs.Rebuild.{rest_limit, Rebuilt};

@@ -1,5 +1,7 @@
 // Replays the list of the Rust's answers against the proved calls, and says how many it compared, by width and
 // kind, and that none differs, or the first that does.
+#![tactic(auto)]
+
 mod calls;
 mod list;
 mod say;

@@ -1,4 +1,6 @@
 // The whole output of the program `root`, for any input.
+#![tactic(auto)]
+
 mod lines;
 
 ghost use Rattle.text.specs.Writing.{Wrote};

@@ -1,4 +1,6 @@
 // Prints the root that standard input asks for, in seven lines, or `bad input`.
+#![tactic(auto)]
+
 
 fn main() {
     // A good input has at most 18 bytes, so one that goes on behind the 32 of the window is bad, whatever stands there.

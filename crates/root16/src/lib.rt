@@ -1,4 +1,6 @@
 // Roots of a u16.
+#![tactic(auto)]
+
 mod alone;
 mod fix;
 mod full;

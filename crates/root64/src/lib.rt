@@ -1,4 +1,6 @@
 // Roots of a u64.
+#![tactic(auto)]
+
 mod alone;
 mod fix;
 mod full;

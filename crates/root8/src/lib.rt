@@ -1,4 +1,6 @@
 // Roots of a u8, by the search from 0.
+#![tactic(auto)]
+
 ghost use Rattle.std.specs.Prelude.{ℕ};
 ghost use Rattle.defs.specs.Kinds.{Kind, square, cube, u8};
 ghost use Rattle.defs.specs.Roots.{IsRoot};

@@ -1,1 +1,3 @@
 // Theorems on the starts S, in proofs/. There is no code here.
+#![tactic(auto)]
+

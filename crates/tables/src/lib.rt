@@ -1,4 +1,6 @@
 // The two tables of first guesses; `words` looks them up, at every index.
+#![tactic(auto)]
+
 mod words;
 
 pub use words::{rcbrt_guess, rsqrt_guess};

@@ -1,4 +1,6 @@
 // Decimal numbers in and out, and the request line of the program `root`.
+#![tactic(auto)]
+
 mod read;
 mod request;
 mod write;

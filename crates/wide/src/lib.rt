@@ -1,4 +1,6 @@
 // Products of two words by their high half, and the doubling that stops at the top.
+#![tactic(auto)]
+
 ghost use Rattle.std.specs.Prelude.{◌≡◌, ◌*◌, min};
 ghost use Rattle.defs.specs.Starts.Letters.{hi};
 

@@ -1,5 +1,7 @@
 // Runs the scope document's worked values that are not proved one by one, and prints what comes out: the file stdout beside
 // this one holds the document's answers.
+#![tactic(auto)]
+
 mod say;
 
 use say::{answer, line, rebuilt, roots};
