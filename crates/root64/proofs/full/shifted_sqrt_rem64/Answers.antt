@@ -1,0 +1,17 @@
+-- `root64::full::shifted_sqrt_rem64` meets its contract: the law of shifts, at squares of 64 bits. Assumes nothing.
+use Rattle.std.proofs.Common.{◌/◌, ◌^◌, refl, arith}
+use Rattle.defs.specs.Kinds.{square, u64}
+use Rattle.defs.specs.Roots.{IsRoot}
+use Rattle.laws.proofs.Full.{root_back_of, answer_back}
+use Rattle.root64.proofs.full.shifted_sqrt_rem64.Goals as goal
+
+pub overflow_sub-result : goal.overflow_sub-result
+overflow_sub-result c =
+    let root : IsRoot square c.args.n (c.fix_sqrt_error64-fixed.result.root / 2 ^ (c.shift_sqrt64-shift.result / 2)) =
+    root_back_of square u64 tt c.requires c.ranges.n.fits c.shift_sqrt64-shift.ensures c.fix_sqrt_error64-fixed.ensures.root_rem.is_root refl in
+    omega (arith, c.square64.ensures, root.fits)
+
+pub returns : goal.returns
+returns c =
+    answer_back square u64 tt c.requires c.ranges.n.fits c.shift_sqrt64-shift.ensures c.start_sqrt64-start.ensures c.fix_sqrt_error64-fixed.ensures
+    (omega arith) (omega (arith, c.square64.ensures))
