@@ -108,7 +108,7 @@ going_on m v s = answer (is_digits s && leb (value_after v s) m) (value_after v 
 -- more digits never make the value smaller
 grows : (v : ℕ) (s : List ℕ) → v ≤ value_after v s
 grows v [] = le_refl v
-grows v (b ∷ s) = le_trans {m = pushed v b} (omega arith) (grows _ s)
+grows v (b ∷ s) = le_trans {m = pushed v b} (omega arith) (grows (pushed v b) s)
 
 -- reading goes on from the next value, or ends there
 module _ (m v b : ℕ) (s : List ℕ) where

@@ -54,7 +54,7 @@ module _ (P : ℕ → Type 0) (short : (n : ℕ) → n < 10 → P n) (long : (n 
 
 value-append : (v : ℕ) (s t : List ℕ) → value_after v (s ++ t) ≡ value_after (value_after v s) t
 value-append v [] t = refl
-value-append v (b ∷ s) t = value-append _ s t
+value-append v (b ∷ s) t = value-append (pushed v b) s t
 
 -- the text of n has the value n
 pub value_of_text : (n : ℕ) → value_of (text_of n) ≡ n
