@@ -2,9 +2,9 @@
 use mathlib.Core.Path.{◌≡◌}
 use Prim.Native.Nat.{ℕ, ◌*◌, ◌-◌, ◌/◌, ◌%◌, ◌^◌, ◌≤◌, ◌<◌}
 use native.Mathlib.Nat.{lt_irrefl}
-use Rattle.defs.specs.Kinds.{Kind, Width, pow, degree, bits_of}
+use Rattle.defs.specs.Kinds.{Kind, Width, pow, bits_of}
 use Rattle.defs.specs.Roots.{IsRoot}
-use Rattle.defs.specs.Cells.{HasTopBits, bound, raised}
+use Rattle.defs.specs.Cells.{bound}
 use Rattle.defs.specs.Answers.{Full}
 use Rattle.defs.specs.Parts.{Shifts, Starts, Fixed}
 use Rattle.laws.proofs.Bills.{billed, full_raised}

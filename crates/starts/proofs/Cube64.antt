@@ -18,7 +18,7 @@ use Rattle.laws.proofs.Roots.{root_is, root_above}
 use Rattle.laws.proofs.Sweeps.{every, at_each}
 use Rattle.starts.specs.Near.{Near}
 use Rattle.starts.proofs.Runs.{ordered, Ordered, orders}
-use Rattle.starts.proofs.Spans.{least, greatest, Spanned, least_rises, greatest_below, halved_below, halved_some}
+use Rattle.starts.proofs.Spans.{least, Spanned, least_rises, greatest_below, halved_below, halved_some}
 use Rattle.starts.proofs.Sides.{sided}
 use Rattle.laws.proofs.Products.{guess_powers}
 use Rattle.starts.proofs.Guesses.{in_table, guess_fits}

@@ -129,7 +129,7 @@ module _ {B M ζ τ κ σ ω J K G g n a r s ρ : ℕ} (f : Figures B M ζ τ κ
 
   -- r times a root q + 1 is hardly above M, where q² fits and q + 1 is not below a
   pub bound : (q : ℕ) → q * q ≤ n → a ≤ q + 1 → r * (q + 1) ≤ M + (τ + 3) * r
-  bound q fits near = le_of_mul-le-mul_right (omega (arith, by_s, by-ρ, mul-le-mul_right q (le_of_eq i.parts))) f.some.2
+  bound q fits near = le_of_mul-le-mul_right (omega (arith, by_s, by_ρ, mul-le-mul_right q (le_of_eq i.parts))) f.some.2
     where
       by_s : s * q ≤ ζ * M + ζ * r
       by_s =
@@ -162,8 +162,8 @@ module _ {B M ζ τ κ σ ω J K G g n a r s ρ : ℕ} (f : Figures B M ζ τ κ
           let large : M ≤ r * q + (G + 1) * B = omega (arith, product_low, mul-le-mul_right r near, i.r_fits) in
           omega (arith, mul-le-mul_left (τ + 1) large, f.bound_left)
 
-      by-ρ : ρ * q ≤ (τ + 1) * (ζ * r)
-      by-ρ = by_contra (ρ * q) ((τ + 1) * (ζ * r)) (λ (h : (τ + 1) * (ζ * r) < ρ * q). against (cancelled (le_of_lt h)))
+      by_ρ : ρ * q ≤ (τ + 1) * (ζ * r)
+      by_ρ = by_contra (ρ * q) ((τ + 1) * (ζ * r)) (λ (h : (τ + 1) * (ζ * r) < ρ * q). against (cancelled (le_of_lt h)))
 
   module _ {E F : ℕ} (l : Floors B n a r E F) where
     -- the correction is small

@@ -1,5 +1,4 @@
 -- `root32::start::rcbrt32` meets its contract: y of the scope document, letter by letter. Assumes nothing.
-use Rattle.std.proofs.Common.{arith}
 use Rattle.defs.specs.Starts.Cube32.{p, t, y}
 use Rattle.starts.proofs.Cube32.{safe}
 use Rattle.root32.proofs.start.rcbrt32.Goals as goal
