@@ -4,52 +4,53 @@
 
 mod say;
 
-use say::{answer, line, rebuilt, roots};
+use say::{answer, rebuilt, roots};
+use std::io;
 
 // The batch over 0, 1, 4, 4294967295, under a budget.
-fn batch_under(budget: u64) {
+fn batch_under(rt: &impl Print, budget: u64) -> io::Result<()> {
     let values = [0u32, 1, 4, 4294967295];
     let mut places = [9u16, 9, 9, 9];
     let a = batch::sqrt_batch(&values, &mut places, 0, 4, budget);
-    line(b"batch, budget ", budget);
-    line(b"  done ", a.done as u64);
-    line(b"  spent ", a.spent);
-    roots(&places);
+    println!(rt; "batch, budget {budget}")?;
+    println!(rt; "  done {}", a.done)?;
+    println!(rt; "  spent {}", a.spent)?;
+    roots(rt, &places)
 }
 
 // A part that does not fit the values: the refusal, and the roots as they were.
-fn batch_part(first: usize, count: usize) {
+fn batch_part(rt: &impl Print, first: usize, count: usize) -> io::Result<()> {
     let values = [0u32, 1, 4, 4294967295];
     let mut places = [9u16, 9, 9, 9];
     let a = batch::sqrt_batch(&values, &mut places, first, count, 100);
-    line(b"batch, refusal ", a.refusal as u64);
-    line(b"  done ", a.done as u64);
-    line(b"  spent ", a.spent);
-    roots(&places);
+    println!(rt; "batch, refusal {}", a.refusal)?;
+    println!(rt; "  done {}", a.done)?;
+    println!(rt; "  spent {}", a.spent)?;
+    roots(rt, &places)
 }
 
 // A roots slice that is shorter than the values.
-fn batch_of_other_length() {
+fn batch_of_other_length(rt: &impl Print) -> io::Result<()> {
     let values = [0u32, 1, 4, 4294967295, 9];
     let mut places = [9u16, 9, 9, 9];
     let a = batch::sqrt_batch(&values, &mut places, 1, 2, 100);
-    line(b"batch, refusal ", a.refusal as u64);
-    roots(&places);
+    println!(rt; "batch, refusal {}", a.refusal)?;
+    roots(rt, &places)
 }
 
-fn main() {
+fn main(rt: HostRuntime) -> io::Result<()> {
     let s = root64::sqrt_rem(18446744073709551615);
-    answer(b"square u64 max", s.root as u64, s.rest);
+    answer(&rt, "square u64 max", s.root as u64, s.rest)?;
     let c = root64::cbrt_rem(18446744073709551615);
-    answer(b"cube u64 max", c.root as u64, c.rest);
-    batch_under(0);
-    batch_under(3);
-    batch_under(4);
-    batch_part(5, 0);
-    batch_part(2, 3);
-    batch_part(4, 0);
-    batch_of_other_length();
-    rebuilt(rebuild::cube32(1625, 3951670));
-    rebuilt(rebuild::cube32(1625, 3951671));
-    rebuilt(rebuild::cube32(1625, 7926751));
+    answer(&rt, "cube u64 max", c.root as u64, c.rest)?;
+    batch_under(&rt, 0)?;
+    batch_under(&rt, 3)?;
+    batch_under(&rt, 4)?;
+    batch_part(&rt, 5, 0)?;
+    batch_part(&rt, 2, 3)?;
+    batch_part(&rt, 4, 0)?;
+    batch_of_other_length(&rt)?;
+    rebuilt(&rt, rebuild::cube32(1625, 3951670))?;
+    rebuilt(&rt, rebuild::cube32(1625, 3951671))?;
+    rebuilt(&rt, rebuild::cube32(1625, 7926751))
 }

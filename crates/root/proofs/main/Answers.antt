@@ -1,0 +1,11 @@
+-- `root::main` writes the part of its buffer up to the end of the reply. Assumes nothing.
+use lib.Dec.{lit≤}
+use Rattle.reply.proofs.Held.{end_inside, end_is_length}
+use Rattle.reply.proofs.Cut.{own_reply}
+use Rattle.root.proofs.main.Goals as goal
+
+pub slice_bounds-out-end : goal.slice_bounds-out-end
+slice_bounds-out-end c = end_inside _ (lit≤ tt) (own_reply c.reply_to_window-written.ensures)
+
+pub slice_bounds-write_all-end : goal.slice_bounds-write_all-end
+slice_bounds-write_all-end c = end_is_length _ (lit≤ tt) (own_reply c.reply_to_window-written.ensures)
