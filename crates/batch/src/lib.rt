@@ -10,7 +10,7 @@ use crate::run::run_part;
 
 // What a batch answers. `refusal` is 0, or 2, 3 or 4 with zeros beside it.
 #[repr(C)]
-#[derive(Drop)]
+#[derive(Clone, Copy)]
 pub struct BatchAnswer {
     pub refusal: u8,
     pub done: usize,

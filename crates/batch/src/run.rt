@@ -5,7 +5,7 @@ ghost use Rattle.batch.specs.Batch.{Ran};
 use root32::sqrt_rem;
 
 // How many values were done, and what they cost.
-#[derive(Drop)]
+#[derive(Clone, Copy)]
 pub(crate) struct Finished {
     pub done: usize,
     pub spent: u64,

@@ -3,8 +3,9 @@
 // byte 1 stands for a NUL of its own. An input has at most 4096 bytes, and the list less than 65536.
 #![tactic(auto)]
 
-ghost use Rattle.std.specs.Prelude.{◌≤◌};
-ghost use Rattle.io.specs.Counts.{IsPrefixLen};
+ghost use Rattle.std.specs.Prelude.{◌≤◌, length};
+
+use std::io;
 
 // The place of the next NUL; the list's length where there is none.
 fn next_nul(list: &[u8], from: usize) -> usize
@@ -26,7 +27,7 @@ fn plain(byte: u8) -> u8 {
 
 // Copies an input, with a NUL for each byte 1, and answers its length.
 fn with_nuls(input: &[u8], to: &mut [u8]) -> usize
-    ensures { IsPrefixLen result to.new }
+    ensures { result ≤ length to.new }
 {
     let mut i = 0;
     while i < input.len() {
@@ -39,30 +40,30 @@ fn with_nuls(input: &[u8], to: &mut [u8]) -> usize
     i
 }
 
-fn say_difference(input: &[u8], expected: &[u8], found: &[u8]) {
-    io::write_all(1, b"differs at the input:\n");
-    io::write_all(1, input);
-    io::write_all(1, b"\nexpected:\n");
-    io::write_all(1, expected);
-    io::write_all(1, b"\nfound:\n");
-    io::write_all(1, found);
+fn say_difference(rt: &impl Print, input: &[u8], expected: &[u8], found: &[u8]) -> io::Result<()> {
+    rt.write_all(b"differs at the input:\n")?;
+    rt.write_all(input)?;
+    rt.write_all(b"\nexpected:\n")?;
+    rt.write_all(expected)?;
+    rt.write_all(b"\nfound:\n")?;
+    rt.write_all(found)
 }
 
 // Whether the reply to an input is the expected one; says the difference where it is not.
-fn agrees(input: &[u8], expected: &[u8]) -> bool {
-    let mut asked = io::buffer();
+fn agrees(rt: &impl Print, input: &[u8], expected: &[u8]) -> io::Result<bool> {
+    let mut asked = [0u8; 4096];
     let size = with_nuls(input, &mut asked);
     let mut out = [0u8; 128];
     let written = reply::reply(&asked[..size], &mut out);
-    let end = written.next;
-    if check::same(&out[..end], expected) {
-        return true;
+    let found = &out[..written.next];
+    if found == expected {
+        return Ok(true);
     }
-    say_difference(input, expected, &out[..end]);
-    false
+    say_difference(rt, input, expected, found)?;
+    Ok(false)
 }
 
-fn compare(list: &[u8]) {
+fn compare(rt: &impl Print, list: &[u8]) -> io::Result<()> {
     let mut count: u64 = 0;
     let mut at = 0;
     while at < list.len() {
@@ -75,26 +76,23 @@ fn compare(list: &[u8]) {
         if stop >= list.len() {
             break;
         }
-        if !agrees(&list[at..end], &list[from..stop]) {
-            return;
+        if !agrees(rt, &list[at..end], &list[from..stop])? {
+            return Ok(());
         }
         count += 1;
         at = stop + 1;
     }
     if at < list.len() {
-        io::write_all(1, b"the list breaks off in a pair\n");
-        return;
+        return println!(rt; "the list breaks off in a pair");
     }
-    io::print_decimal(1, count);
-    io::write_all(1, b" inputs, 0 differ\n");
+    println!(rt; "{count} inputs, 0 differ")
 }
 
-fn main() {
-    let mut list = io::large_buffer();
-    let size = io::read_full(0, &mut list);
+fn main(rt: HostRuntime) -> io::Result<()> {
+    let mut list = [0u8; 65536];
+    let size = input::read_full(&mut rt.stdin(), &mut list);
     if size == 65536 {
-        io::write_all(1, b"the list is too long\n");
-        return;
+        return println!(rt; "the list is too long");
     }
-    compare(&list[..size]);
+    compare(&rt, &list[..size])
 }

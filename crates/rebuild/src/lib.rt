@@ -9,28 +9,28 @@ ghost use Rattle.defs.specs.Rebuild.{rest_limit, Rebuilt};
 ghost use Rattle.rebuild.specs.Within.{Within};
 
 #[repr(C)]
-#[derive(Drop)]
+#[derive(Clone, Copy)]
 pub struct Rebuilt8 {
     pub refusal: u8,
     pub value: u8,
 }
 
 #[repr(C)]
-#[derive(Drop)]
+#[derive(Clone, Copy)]
 pub struct Rebuilt16 {
     pub refusal: u8,
     pub value: u16,
 }
 
 #[repr(C)]
-#[derive(Drop)]
+#[derive(Clone, Copy)]
 pub struct Rebuilt32 {
     pub refusal: u8,
     pub value: u32,
 }
 
 #[repr(C)]
-#[derive(Drop)]
+#[derive(Clone, Copy)]
 pub struct Rebuilt64 {
     pub refusal: u8,
     pub value: u64,

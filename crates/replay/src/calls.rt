@@ -6,7 +6,7 @@ mod at8;
 
 // What the calls on a value answer: the full call, the root alone, whether the normalised call answers or refuses as it
 // should, and whether the value is rebuilt from its root and rest. `known` is false where there are no such calls.
-#[derive(Drop)]
+#[derive(Clone, Copy)]
 pub(crate) struct Found {
     pub(crate) known: bool,
     pub(crate) root: u64,

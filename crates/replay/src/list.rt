@@ -5,7 +5,7 @@ ghost use Rattle.std.specs.Prelude.{◌<◌};
 pub(crate) const RUN: usize = 32;
 
 // `count` values from `value` on that share root, start and steps, with rests that rise by one.
-#[derive(Drop)]
+#[derive(Clone, Copy)]
 pub(crate) struct Run {
     pub(crate) value: u64,
     pub(crate) rest: u64,

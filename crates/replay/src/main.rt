@@ -10,9 +10,11 @@ ghost use Rattle.std.specs.Prelude.{◌<◌};
 
 use calls::{Found, call};
 use list::{Run, run_of};
+use std::io;
+use std::io::Read;
 
 // How many values of a run were compared, and whether the next one differs.
-#[derive(Drop)]
+#[derive(Clone, Copy)]
 struct Outcome {
     compared: u64,
     differs: bool,
@@ -32,7 +34,7 @@ fn agrees(run: Run, i: u64, f: Found) -> bool {
     if !f.rebuilt {
         return false;
     }
-    if f.rest != std::num::wrapping_add_u64(run.rest, i) {
+    if f.rest != run.rest.wrapping_add(i) {
         return false;
     }
     if f.start != run.start {
@@ -44,11 +46,7 @@ fn agrees(run: Run, i: u64, f: Found) -> bool {
 fn replayed(run: Run) -> Outcome {
     let mut i: u64 = 0;
     while i < run.count {
-        let f = call(
-            run.degree,
-            run.width,
-            std::num::wrapping_add_u64(run.value, i),
-        );
+        let f = call(run.degree, run.width, run.value.wrapping_add(i));
         if !f.known {
             return Outcome {
                 compared: 0,
@@ -98,20 +96,20 @@ fn cell_of(degree: u64, width: u64) -> usize
 fn counted(compared: [u64; 8], run: Run, more: u64) -> [u64; 8] {
     let mut out = compared;
     let cell = cell_of(run.degree, run.width);
-    out[cell] = std::num::wrapping_add_u64(out[cell], more);
+    out[cell] = out[cell].wrapping_add(more);
     out
 }
 
 // The list's next run, if there is one.
-#[derive(Drop)]
+#[derive(Clone, Copy)]
 struct Next {
     more: bool,
     run: Run,
 }
 
-fn next_run() -> Next {
+fn next_run(list: &mut impl Read) -> Next {
     let mut bytes = [0u8; 32];
-    let got = io::read_full(0, &mut bytes);
+    let got = input::read_full(list, &mut bytes);
     Next {
         more: got == 32,
         run: run_of(&bytes),
@@ -119,19 +117,20 @@ fn next_run() -> Next {
 }
 
 // Says the i-th value of a run, at which what the calls answer is not what the list has.
-fn say_difference(run: Run, i: u64) {
-    let value = std::num::wrapping_add_u64(run.value, i);
-    say::difference(run, i, call(run.degree, run.width, value));
+fn say_difference(rt: &impl Print, run: Run, i: u64) -> io::Result<()> {
+    let value = run.value.wrapping_add(i);
+    say::difference(rt, run, i, call(run.degree, run.width, value))
 }
 
 // More runs than a list has, so that the loop ends whatever is read.
 const MOST_RUNS: u64 = 1000000;
 
-fn main() {
+fn main(rt: HostRuntime) -> io::Result<()> {
+    let mut list = rt.stdin();
     let mut compared = [0u64; 8];
     let mut runs: u64 = 0;
     while runs < MOST_RUNS {
-        let next = next_run();
+        let next = next_run(&mut list);
         if !next.more {
             break;
         }
@@ -140,10 +139,9 @@ fn main() {
         let after = counted(compared, run, outcome.compared);
         compared = after;
         if outcome.differs {
-            say_difference(run, outcome.compared);
-            return;
+            return say_difference(&rt, run, outcome.compared);
         }
         runs += 1;
     }
-    say::counts(compared);
+    say::counts(&rt, compared)
 }

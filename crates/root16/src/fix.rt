@@ -6,7 +6,7 @@ ghost use Rattle.defs.specs.Parts.{Fixed};
 
 use crate::power::{cube16, square16};
 
-#[derive(Drop)]
+#[derive(Clone, Copy)]
 pub(crate) struct Fixed16 {
     pub(crate) root: u8,
     pub(crate) rest: u16,

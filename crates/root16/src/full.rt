@@ -10,7 +10,7 @@ use crate::start::{start_cbrt16, start_sqrt16};
 
 // What a full call answers: root and rest, and where its fix-up started and how many steps it took.
 #[repr(C)]
-#[derive(Drop)]
+#[derive(Clone, Copy)]
 pub struct RootRem16 {
     pub root: u8,
     pub rest: u16,

@@ -7,7 +7,7 @@ use crate::start::{start_cbrt16, start_sqrt16};
 
 // What a normalised call answers. `refusal` is 0, or 1 with zeros beside it.
 #[repr(C)]
-#[derive(Drop)]
+#[derive(Clone, Copy)]
 pub struct NormalizedRootRem16 {
     pub refusal: u8,
     pub root: u8,

@@ -6,7 +6,7 @@ ghost use Rattle.defs.specs.Parts.{Fixed};
 
 use crate::power::{cube32, square32};
 
-#[derive(Drop)]
+#[derive(Clone, Copy)]
 pub(crate) struct Fixed32 {
     pub(crate) root: u16,
     pub(crate) rest: u32,

@@ -10,7 +10,7 @@ use crate::start::{start_cbrt32, start_sqrt32};
 
 // What a full call answers: root and rest, and where its fix-up started and how many steps it took.
 #[repr(C)]
-#[derive(Drop)]
+#[derive(Clone, Copy)]
 pub struct RootRem32 {
     pub root: u16,
     pub rest: u32,

@@ -7,7 +7,7 @@ use crate::start::{start_cbrt32, start_sqrt32};
 
 // What a normalised call answers. `refusal` is 0, or 1 with zeros beside it.
 #[repr(C)]
-#[derive(Drop)]
+#[derive(Clone, Copy)]
 pub struct NormalizedRootRem32 {
     pub refusal: u8,
     pub root: u16,

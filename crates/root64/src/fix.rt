@@ -6,7 +6,7 @@ ghost use Rattle.defs.specs.Parts.{Fixed};
 
 use crate::power::{cube64, square64};
 
-#[derive(Drop)]
+#[derive(Clone, Copy)]
 pub(crate) struct Fixed64 {
     pub(crate) root: u32,
     pub(crate) rest: u64,

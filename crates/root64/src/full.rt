@@ -10,7 +10,7 @@ use crate::start::{start_cbrt64, start_sqrt64};
 
 // What a full call answers: root and rest, and where its fix-up started and how many steps it took.
 #[repr(C)]
-#[derive(Drop)]
+#[derive(Clone, Copy)]
 pub struct RootRem64 {
     pub root: u32,
     pub rest: u64,

@@ -6,7 +6,7 @@ ghost use Rattle.defs.specs.Parts.{Fixed};
 
 use crate::power::{cube8, square8};
 
-#[derive(Drop)]
+#[derive(Clone, Copy)]
 pub(crate) struct Fixed8 {
     pub(crate) root: u8,
     pub(crate) rest: u8,

@@ -14,7 +14,7 @@ use fix::{Fixed8, fix_cbrt_error8, fix_sqrt_error8};
 
 // What a full call answers: root and rest, and where its fix-up started and how many steps it took.
 #[repr(C)]
-#[derive(Drop)]
+#[derive(Clone, Copy)]
 pub struct RootRem8 {
     pub root: u8,
     pub rest: u8,

@@ -3,7 +3,7 @@ ghost use Rattle.std.specs.Prelude.{◌≡◌};
 ghost use Rattle.text.specs.Reading.{read_of, next_of};
 
 // Whether a number was read, and its value; 0 where none was.
-#[derive(Drop)]
+#[derive(Clone, Copy)]
 pub struct Decimal {
     pub ok: bool,
     pub value: u64,

@@ -5,7 +5,7 @@ ghost use Rattle.text.specs.Request.{starts_with, asked_of, request_of};
 use crate::read::read_decimal;
 
 // What is asked: a square or a cube root, and of which value; false and 0 where nothing good is.
-#[derive(Drop)]
+#[derive(Clone, Copy)]
 pub struct Request {
     pub ok: bool,
     pub cube: bool,

@@ -4,7 +4,7 @@ ghost use Rattle.text.specs.Decimal.{text_of};
 ghost use Rattle.text.specs.Writing.{Wrote};
 
 // Whether all was written, and the place behind it; where nothing was, the place where it should have gone.
-#[derive(Drop)]
+#[derive(Clone, Copy)]
 pub struct Written {
     pub ok: bool,
     pub next: usize,
