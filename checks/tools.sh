@@ -1,22 +1,22 @@
 # To be sourced: the prover with its progress, and the tools that a machine may not have.
 
-# prove WORDS..: runs rt in this folder, which is the repository's. Each crate is shown on standard error as it is proved, and
-# where one is not what rt said last. Status 0 only if rt proved everything that it was asked for, in this very run.
+# prove COMMAND CRATE: `rt COMMAND` on a crate of this repository, which is the folder that we are in: run for a program, which then
+# runs once on no input, lib for an archive. Each crate that has to be proved is said on standard error, and where one does not hold
+# what rt said last. Status 0 only if rt has proved all of it, in this very run or before of the same files.
 prove() {
-    local line verdict='' said=()
-    # rt reads its verdicts from files there: none of an earlier run may be left
-    if ! { mkdir -p target/log && [ -w target/log ] && rm -f target/log/*.res; } 2>/dev/null; then
-        echo "${0##*/}: nothing proved, target/log cannot be written" >&2
-        return 1
-    fi
+    local line crate='' named='' verdict='' said=()
     while IFS= read -r line; do
         verdict=$line
         case $line in
-        proved | failed | 'rt: '*' proved (unchanged '*) ;;
-        'rt: '*' proved ('*' s)') echo "$line" >&2 ;;
+        proved | failed) ;;
+        'rt: chose --jobs '*) crate=${line##* } ;;
+        'checked '* | 'crate '*' checked='[1-9]*)
+            if [ "$crate" != "$named" ]; then echo "${0##*/}: proving $crate" >&2; fi
+            named=$crate
+            ;;
         *) said+=("$line") ;;
         esac
-    done < <(rt "$@" </dev/null 2>&1 && echo proved || echo failed)
+    done < <(cd "crates/$2" && rt "$1" </dev/null 2>&1 && printf '\nproved\n' || printf '\nfailed\n')
     if [ "$verdict" = proved ]; then return; fi
     printf '%s\n' "${said[@]}" | tail -n 20 >&2
     return 1

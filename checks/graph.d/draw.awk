@@ -6,7 +6,8 @@
 BEGIN { BOX = 80; HIGH = 30; BETWEEN = 58; GAP = 16; MARGIN = 12 }
 { sub(/#.*/, "") }
 /:/ {
-    name[++nodes] = substr($0, 1, index($0, ":") - 1)
+    name[++nodes] = $1 # behind the name may stand what is built of it
+    sub(/:.*/, "", name[nodes])
     number[name[nodes]] = nodes
     stands_on[nodes] = substr($0, index($0, ":") + 1)
     if (BOX < 9 * length(name[nodes]) + 20) BOX = 9 * length(name[nodes]) + 20

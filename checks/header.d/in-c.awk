@@ -61,9 +61,9 @@ part == "structs" {
     print "struct " struct_name($1) ": " listed(inside("{", "}"), "; ") ";"
 }
 
-# notNormalised is FREGNAUL_NOT_NORMALIZED, spelt as the functions are
+# not_normalised is FREGNAUL_NOT_NORMALIZED, spelt as the functions are
 part == "refusals" {
-    name = toupper(snake($1))
+    name = toupper($1)
     sub(/NORMALISED/, "NORMALIZED", name)
     print "refusal FREGNAUL_" name " = " $3
 }
