@@ -96,7 +96,7 @@ module _ (x g : ℕ) (small : x ≤ 2 ^ 32) where
   pub deepest_small : pow cube x * g ≤ most_x → deepest x g ≤ 2 ^ 30
   deepest_small most = omega (arith, floors x g small)
 
-  -- (y + 1)³·g is at least K, where phi is large enough at both ends, L and most-x, of x³·g
+  -- (y + 1)³·g is at least K, where phi is large enough at both ends, L and most_x, of x³·g
   pub y_least : (K L : ℕ) → L ≤ pow cube x * g → pow cube x * g ≤ most_x →
       K * pow cube (3 * 2 ^ 128) ≤ phi cube (2 ^ 124) L → K * pow cube (3 * 2 ^ 128) ≤ phi cube (2 ^ 124) most_x →
       K ≤ pow cube (y_of x g + 1) * g
