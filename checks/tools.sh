@@ -8,11 +8,10 @@ prove() {
     while IFS= read -r line; do
         verdict=$line
         case $line in
-        proved | failed) ;;
+        proved | failed | '' | 'statements '* | 'library '* | 'logic'* | 'axioms '* | 'struct '* | *': proved') ;; # what is so each time
         'rt: chose --jobs '*) crate=${line##* } ;;
-        'checked '* | 'crate '*' checked='[1-9]*)
-            if [ "$crate" != "$named" ]; then echo "${0##*/}: proving $crate" >&2; fi
-            named=$crate
+        'checked '* | 'crate '*)
+            if [ "$crate" != "$named" ] && [[ $line != *' checked=0' ]]; then echo "${0##*/}: proving $crate" >&2 && named=$crate; fi
             ;;
         *) said+=("$line") ;;
         esac

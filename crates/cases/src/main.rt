@@ -90,7 +90,7 @@ fn compare(rt: &impl Print, list: &[u8]) -> io::Result<()> {
 
 fn main(rt: HostRuntime) -> io::Result<()> {
     let mut list = [0u8; 65536];
-    let size = input::read_full(&mut rt.stdin(), &mut list);
+    let (size, _) = input::read_full(&mut rt.stdin(), &mut list);
     if size == 65536 {
         return println!(rt; "the list is too long");
     }

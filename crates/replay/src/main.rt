@@ -109,7 +109,7 @@ struct Next {
 
 fn next_run(list: &mut impl Read) -> Next {
     let mut bytes = [0u8; 32];
-    let got = input::read_full(list, &mut bytes);
+    let (got, _) = input::read_full(list, &mut bytes);
     Next {
         more: got == 32,
         run: run_of(&bytes),
