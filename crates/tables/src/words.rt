@@ -39,6 +39,7 @@ fn word_of(t: &[u8], j: usize) -> u64
 }
 
 // Word j of RSQRT_TAB, and 0 past its end.
+#[tactic(auto, unfolding(defs::specs::Tables::rsqrt_tab))]
 fn rsqrt_word(j: usize) -> u64
     ensures { Holds result rsqrt_tab j }
 {
@@ -61,6 +62,7 @@ fn rsqrt_word(j: usize) -> u64
 }
 
 // Word j of RCBRT_TAB, and 0 past its end.
+#[tactic(auto, unfolding(defs::specs::Tables::rcbrt_tab))]
 fn rcbrt_word(j: usize) -> u64
     ensures { Holds result rcbrt_tab j }
 {

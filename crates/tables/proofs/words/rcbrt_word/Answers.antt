@@ -1,36 +1,8 @@
--- `tables::words::rcbrt_word` meets its contract: each arm is its table's word, and past the last there is none. Assumes nothing.
+-- `tables::words::rcbrt_word` meets its contract: past the last word there is none. Assumes nothing.
 use Rattle.std.proofs.Common.{rules, refl}
 use Rattle.defs.specs.Tables.{rcbrt_tab}
 use Rattle.tables.proofs.Held.{past}
 use Rattle.tables.proofs.words.rcbrt_word.Goals as goal
-
-pub returns-in-0 : goal.returns-in-0
-unfolding rcbrt_tab
-returns-in-0 c = rw c.in-0.is c.word_of.ensures
-
-pub returns-in-1 : goal.returns-in-1
-unfolding rcbrt_tab
-returns-in-1 c = rw c.in-1.is c.word_of-in-1.ensures
-
-pub returns-in-2 : goal.returns-in-2
-unfolding rcbrt_tab
-returns-in-2 c = rw c.in-2.is c.word_of-in-2.ensures
-
-pub returns-in-3 : goal.returns-in-3
-unfolding rcbrt_tab
-returns-in-3 c = rw c.in-3.is c.word_of-in-3.ensures
-
-pub returns-in-4 : goal.returns-in-4
-unfolding rcbrt_tab
-returns-in-4 c = rw c.in-4.is c.word_of-in-4.ensures
-
-pub returns-in-5 : goal.returns-in-5
-unfolding rcbrt_tab
-returns-in-5 c = rw c.in-5.is c.word_of-in-5.ensures
-
-pub returns-in-6 : goal.returns-in-6
-unfolding rcbrt_tab
-returns-in-6 c = rw c.in-6.is c.word_of-in-6.ensures
 
 pub returns-in_default : goal.returns-in_default
 unfolding rcbrt_tab
