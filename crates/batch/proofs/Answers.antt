@@ -1,5 +1,5 @@
 -- A batch from its run: what each way through the call shows, and that no second answer fits. Assumes nothing.
-use mathlib.Core.Path.{◌≡◌, refl, sym, ◌∙◌}
+use mathlib.Core.Path.{◌≡◌, refl, sym, ap, ◌∙◌}
 use mathlib.Core.Logic.{◌⊎◌, inl, inr, ⊎_elim}
 use mathlib.Core.List.{List, ◌++◌, append_assoc}
 use Prim.Native.Nat.{ℕ, zero, suc, ◌+◌, ◌-◌, ◌≤◌, ◌<◌}
@@ -9,6 +9,12 @@ use lib.ListN.{length, take, drop, take-append-drop, length-take, length-drop}
 use lib.Seq.{drop-append-le, drop-drop}
 use borrow.Author.Tests.{lt-ltb, le-ltb, eq-eqb, ne_eqb}
 use Rattle.defs.specs.Refusals.{no_refusal, first_beyond, count_beyond, lengths_differ}
+use Rattle.std.specs.Prelude.{Result}
+use Rattle.refusals.specs.declared.Refusal.{Refusal}
+use Rattle.refusals.specs.Refusal.{number_in}
+use Rattle.refusals.proofs.Numbers.{one_result}
+use Rattle.batch.specs.declared.run.Finished.{Finished}
+use Rattle.batch.specs.Outcome.{finished_in}
 use Rattle.batch.specs.Batch.{part, refusal_of, NothingDone, Ran, Batched}
 use Rattle.batch.proofs.Largest.{one_largest}
 
@@ -30,14 +36,13 @@ module _ (first count values roots : ℕ) where
   unfolding refusal_of
   none_refused h g s = rw (le-ltb values first h, le-ltb (values - first) count g, eq-eqb values roots s)
 
--- a call that returns a refusal's number and zeros, with nothing written
-pub refuses : {values before : List ℕ} {first count budget number refusal done spent : ℕ} → (number ≡ no_refusal → ⊥) →
-    refusal_of first count (length values) (length before) ≡ number → (refusal ≡ number) × (done ≡ 0) × (spent ≡ 0) →
-    Batched values before first count budget refusal done spent before
-refuses some found said = record {
-  is_refusal = said.0 ∙ sym found;
-  if_refused = λ refused. record { none_done = said.1; none_spent = said.2; unchanged = refl };
-  if_answered = λ none. absurd (some (sym said.0 ∙ none));
+-- a call that returns a refusal, with nothing written
+pub refuses : {values before : List ℕ} {first count budget number : ℕ} → (number ≡ no_refusal → ⊥) →
+    refusal_of first count (length values) (length before) ≡ number → Batched values before first count budget number 0 0 before
+refuses some found = record {
+  is_refusal = sym found;
+  if_refused = λ refused. record { none_done = refl; none_spent = refl; unchanged = refl };
+  if_answered = λ none. absurd (some none);
 }
 
 -- a part that lies within the list has as many values as it says
@@ -52,24 +57,23 @@ put_back first count done before roots h =
     rw (zero-add, append_assoc, ← (drop-append-le done (take count l) (drop count l) h), take-append-drop, drop-drop)
 
 -- a call that passes every test, lends the two parts to a run, and returns what the run did
-pub answers : {values before middle : List ℕ} {first count budget refusal done spent ran_done ran_spent : ℕ} → first ≤ length values →
+pub answers : {values before middle : List ℕ} {first count budget done spent : ℕ} → first ≤ length values →
     count ≤ length values - first → length values ≡ length before →
-    Ran (part first count values) (part first count before) 0 budget ran_done ran_spent middle →
-    (refusal ≡ no_refusal) × (done ≡ ran_done) × (spent ≡ ran_spent) →
-    Batched values before first count budget refusal done spent (take first before ++ (middle ++ drop count (drop first before)))
-answers {values} {before} {first = first} {count = count} {ran_done = ran_done} h g same ran said =
-    let within : ran_done ≤ length (part first count before) =
+    Ran (part first count values) (part first count before) 0 budget done spent middle →
+    Batched values before first count budget no_refusal done spent (take first before ++ (middle ++ drop count (drop first before)))
+answers {values} {before} {first = first} {count = count} {done = done} h g same ran =
+    let within : done ≤ length (part first count before) =
     omega (arith, ran.is_done.affords.within, part_length first count values h g, part_length first count before (omega arith) (omega arith)) in
-    rw (said.0, said.1, said.2) (record {
+    record {
       is_refusal = sym (none_refused first count (length values) (length before) h g same);
       if_refused = λ some. absurd (some refl);
       if_answered = λ none. record {
         is_done = ran.is_done;
         is_spent = ran.is_spent;
         in_budget = ran.in_budget;
-        is_after = rw (ran.is_after, put_back first count ran_done before _ within);
+        is_after = rw (ran.is_after, put_back first count done before _ within);
       };
-    })
+    }
 
 -- a number is that of no refusal, or of one
 pub refused_or_not : (refusal : ℕ) → (refusal ≡ no_refusal) ⊎ (refusal ≡ no_refusal → ⊥)
@@ -97,3 +101,18 @@ one_batch {refusal = refusal} {refusal' = refusal'} x y =
     let rest = ⊎_elim (λ none. one_ran (x.if_answered none) (y.if_answered (sym same ∙ none))) (λ some.
     one_refused (x.if_refused some) (y.if_refused (λ none. some (same ∙ none)))) (refused_or_not refusal) in
     (same, rest.0, rest.1, rest.2)
+
+-- what was done is one where its two numbers are
+one_finished : (x y : Finished) → x.done ≡ y.done → x.spent ≡ y.spent → x ≡ y
+one_finished x y done spent =
+    let of_done : ℕ → Finished = λ n. record { done = n; spent = x.spent } in
+    let of_spent : ℕ → Finished = λ n. record { done = y.done; spent = n } in
+    ap of_done done ∙ ap of_spent spent
+
+-- no second result, and no second list of roots, fits a call
+pub one_outcome : {values before after after' : List ℕ} {first count budget : ℕ} (a b : Result Finished Refusal) →
+    Batched values before first count budget (number_in a) (finished_in a).done (finished_in a).spent after →
+    Batched values before first count budget (number_in b) (finished_in b).done (finished_in b).spent after' → (a ≡ b) × (after ≡ after')
+one_outcome a b x y =
+    let same = one_batch x y in
+    (one_result (record { done = 0; spent = 0 }) a b same.0 (one_finished (finished_in a) (finished_in b) same.1 same.2), same.3)

@@ -1,5 +1,5 @@
 -- What a batch of u32 square roots is to do, done within a budget of steps: definitions alone.
-use Rattle.std.specs.Prelude.{◌≡◌, cond, List, [], ◌∷◌, ◌++◌, map, ℕ, ◌+◌, ◌-◌, ◌^◌, ◌≤◌, ◌<◌, ltb, eqb, length, take, drop, get_or}
+use Rattle.std.specs.Prelude.{◌≡◌, cond, List, ◌++◌, map, sum_by, ℕ, ◌+◌, ◌-◌, ◌^◌, ◌≤◌, ◌<◌, ltb, eqb, length, take, drop, get_or}
 use Rattle.defs.specs.Kinds.{square, u32}
 use Rattle.defs.specs.Roots.{root_of}
 use Rattle.defs.specs.Cells.{full_steps}
@@ -11,8 +11,7 @@ cost_of n = full_steps square u32 n
 
 -- what the values of a list cost together
 abbrev pub costs : List ℕ → ℕ
-costs [] = 0
-costs (n ∷ l) = cost_of n + costs l
+costs values = sum_by cost_of values
 
 -- k is at most the length of the list, and its first k values cost at most the budget together
 pub record Affords (values : List ℕ) (budget k : ℕ) : Type 0 where

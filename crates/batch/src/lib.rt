@@ -3,30 +3,13 @@
 
 mod run;
 
-ghost use Rattle.std.specs.Prelude.{◌≡◌};
+ghost use Rattle.refusals.specs.Refusal.{number_in};
 ghost use Rattle.batch.specs.Batch.{Batched};
+ghost use Rattle.batch.specs.Outcome.{finished_in};
 
+pub use crate::run::Finished;
 use crate::run::run_part;
-
-// What a batch answers. `refusal` is 0, or 2, 3 or 4 with zeros beside it.
-#[repr(C)]
-#[derive(Clone, Copy)]
-pub struct BatchAnswer {
-    pub refusal: u8,
-    pub done: usize,
-    pub spent: u64,
-}
-
-// A refusal: its number, with nothing done and nothing spent.
-fn refused(number: u8) -> BatchAnswer
-    ensures { (result.refusal ≡ number) × (result.done ≡ 0) × (result.spent ≡ 0) }
-{
-    BatchAnswer {
-        refusal: number,
-        done: 0,
-        spent: 0,
-    }
-}
+use refusals::Refusal;
 
 // The roots of `count` values from `first` on, written to the same places of `roots`, as far as the budget goes.
 pub fn sqrt_batch(
@@ -35,25 +18,16 @@ pub fn sqrt_batch(
     first: usize,
     count: usize,
     budget: u64,
-) -> BatchAnswer
-    ensures { Batched values.now roots.old first count budget result.refusal result.done result.spent roots.new }
+) -> Result<Finished, Refusal>
+    ensures { let ran = finished_in result in
+        Batched values.now roots.old first count budget (number_in result) ran.done ran.spent roots.new }
 {
-    // The first of the refusals 2, 3 and 4 that applies is given.
-    if first > values.len() {
-        return refused(2);
-    }
-    if count > values.len() - first {
-        return refused(3);
-    }
+    // The first of the three refusals that applies is given.
+    let rest = values.get(first..).ok_or(Refusal::FirstBeyond)?;
+    let part = rest.get(..count).ok_or(Refusal::CountBeyond)?;
     if values.len() != roots.len() {
-        return refused(4);
+        return Err(Refusal::LengthsDiffer);
     }
     // The run is lent the two parts alone, so no other place can change.
-    let end = first + count;
-    let ran = run_part(&values[first..end], &mut roots[first..end], budget);
-    BatchAnswer {
-        refusal: 0,
-        done: ran.done,
-        spent: ran.spent,
-    }
+    Ok(run_part(part, &mut roots[first..first + count], budget))
 }

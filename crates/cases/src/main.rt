@@ -3,22 +3,16 @@
 // byte 1 stands for a NUL of its own. An input has at most 4096 bytes, and the list less than 65536.
 #![tactic(auto)]
 
-ghost use Rattle.std.specs.Prelude.{◌≤◌, length};
+ghost use Rattle.std.specs.Prelude.{◌≤◌, ◌<◌, length, IfSome};
 
 use std::io;
 
-// The place of the next NUL; the list's length where there is none.
-fn next_nul(list: &[u8], from: usize) -> usize
-    ensures { from ≤ result }
+// The text up to the first NUL, and what stands behind that.
+fn split_text(list: &[u8]) -> Option<(&[u8], &[u8])>
+    ensures { IfSome result (λ parts. length parts.1.now < length list.now) }
 {
-    let mut i = from;
-    while i < list.len() {
-        if list[i] == 0 {
-            return i;
-        }
-        i += 1;
-    }
-    i
+    let nul = list.iter().position(|byte| *byte == 0)?;
+    Some((&list[..nul], &list[nul + 1..]))
 }
 
 fn plain(byte: u8) -> u8 {
@@ -29,15 +23,10 @@ fn plain(byte: u8) -> u8 {
 fn with_nuls(input: &[u8], to: &mut [u8]) -> usize
     ensures { result ≤ length to.new }
 {
-    let mut i = 0;
-    while i < input.len() {
-        if i >= to.len() {
-            return i;
-        }
-        to[i] = plain(input[i]);
-        i += 1;
+    for (place, byte) in to.iter_mut().zip(input) {
+        *place = plain(*byte);
     }
-    i
+    input.len().min(to.len())
 }
 
 fn say_difference(rt: &impl Print, input: &[u8], expected: &[u8], found: &[u8]) -> io::Result<()> {
@@ -51,11 +40,11 @@ fn say_difference(rt: &impl Print, input: &[u8], expected: &[u8], found: &[u8]) 
 
 // Whether the reply to an input is the expected one; says the difference where it is not.
 fn agrees(rt: &impl Print, input: &[u8], expected: &[u8]) -> io::Result<bool> {
-    let mut asked = [0u8; 4096];
+    let mut asked = [0; 4096];
     let size = with_nuls(input, &mut asked);
-    let mut out = [0u8; 128];
-    let written = reply::reply(&asked[..size], &mut out);
-    let found = &out[..written.next];
+    let mut out = [0; 128];
+    let end = reply::reply(&asked[..size], &mut out).unwrap();
+    let found = &out[..end];
     if found == expected {
         return Ok(true);
     }
@@ -65,31 +54,25 @@ fn agrees(rt: &impl Print, input: &[u8], expected: &[u8]) -> io::Result<bool> {
 
 fn compare(rt: &impl Print, list: &[u8]) -> io::Result<()> {
     let mut count: u64 = 0;
-    let mut at = 0;
-    while at < list.len() {
-        let end = next_nul(list, at);
-        if end >= list.len() {
+    let mut rest = list;
+    while let Some((input, behind)) = split_text(rest) {
+        let Some((expected, next)) = split_text(behind) else {
             break;
-        }
-        let from = end + 1;
-        let stop = next_nul(list, from);
-        if stop >= list.len() {
-            break;
-        }
-        if !agrees(rt, &list[at..end], &list[from..stop])? {
+        };
+        if !agrees(rt, input, expected)? {
             return Ok(());
         }
         count += 1;
-        at = stop + 1;
+        rest = next;
     }
-    if at < list.len() {
+    if !rest.is_empty() {
         return println!(rt; "the list breaks off in a pair");
     }
     println!(rt; "{count} inputs, 0 differ")
 }
 
 fn main(rt: HostRuntime) -> io::Result<()> {
-    let mut list = [0u8; 65536];
+    let mut list = [0; 65536];
     let (size, _) = input::read_full(&mut rt.stdin(), &mut list);
     if size == 65536 {
         return println!(rt; "the list is too long");

@@ -1,6 +1,6 @@
 -- What the calls are put together from: the promises of a shift, a start and a fix-up, which no caller from outside sees.
 use Rattle.std.specs.Prelude.{◌≡◌, ℕ, ◌+◌, ◌*◌, ◌/◌, ◌%◌, ◌^◌, ◌≤◌, ◌<◌}
-use Rattle.defs.specs.Kinds.{Kind, Width, pow, degree, bits_of, root_bits}
+use Rattle.defs.specs.Kinds.{Kind, square, cube, Width, pow, degree, bits_of, root_bits}
 use Rattle.defs.specs.Roots.{RootRem}
 use Rattle.defs.specs.Starts.{cell_start}
 use Rattle.defs.specs.Cells.{bound, shift_of}
@@ -22,3 +22,13 @@ pub record Starts (k : Kind) (w : Width) (n start : ℕ) : Type 0 where
 pub record Fixed (k : Kind) (n start root rest steps : ℕ) : Type 0 where
   pub root_rem : RootRem k n root rest
   pub counted : start + steps ≡ root
+
+-- from the power of s to that of s + 1: the next odd number, or the next difference of cubes
+abbrev pub gap : Kind → ℕ → ℕ
+gap square s = 2 * s + 1
+gap cube s = 3 * (s * s + s) + 1
+
+-- the gap g that led to the root s, widened to the gap from s on: two more, or six times s more
+abbrev pub widened : Kind → ℕ → ℕ → ℕ
+widened square g s = g + 2
+widened cube g s = g + 6 * s

@@ -6,54 +6,54 @@ ghost use Rattle.defs.specs.Roots.{IsRoot};
 pub extern "C" fn fregnaul_sqrt_u8(n: u8) -> u8
     ensures { IsRoot square n result }
 {
-    root8::sqrt(n)
+    roots::sqrt(n)
 }
 
 #[unsafe(no_mangle)]
 pub extern "C" fn fregnaul_cbrt_u8(n: u8) -> u8
     ensures { IsRoot cube n result }
 {
-    root8::cbrt(n)
+    roots::cbrt(n)
 }
 
 #[unsafe(no_mangle)]
 pub extern "C" fn fregnaul_sqrt_u16(n: u16) -> u8
     ensures { IsRoot square n result }
 {
-    root16::sqrt(n)
+    roots::sqrt(n)
 }
 
 #[unsafe(no_mangle)]
 pub extern "C" fn fregnaul_cbrt_u16(n: u16) -> u8
     ensures { IsRoot cube n result }
 {
-    root16::cbrt(n)
+    roots::cbrt(n)
 }
 
 #[unsafe(no_mangle)]
 pub extern "C" fn fregnaul_sqrt_u32(n: u32) -> u16
     ensures { IsRoot square n result }
 {
-    root32::sqrt(n)
+    roots::sqrt(n)
 }
 
 #[unsafe(no_mangle)]
 pub extern "C" fn fregnaul_cbrt_u32(n: u32) -> u16
     ensures { IsRoot cube n result }
 {
-    root32::cbrt(n)
+    roots::cbrt(n)
 }
 
 #[unsafe(no_mangle)]
 pub extern "C" fn fregnaul_sqrt_u64(n: u64) -> u32
     ensures { IsRoot square n result }
 {
-    root64::sqrt(n)
+    roots::sqrt(n)
 }
 
 #[unsafe(no_mangle)]
 pub extern "C" fn fregnaul_cbrt_u64(n: u64) -> u32
     ensures { IsRoot cube n result }
 {
-    root64::cbrt(n)
+    roots::cbrt(n)
 }

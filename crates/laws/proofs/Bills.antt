@@ -72,28 +72,29 @@ full_raised k w {n} p answer started stepped = record {
   is_steps = rw (ne_eqb n 0 p) stepped;
 }
 
--- the u8 bill: a search from 0 starts at S, and answers with the steps that it took
-starts_8 : (k : Kind) (n : ℕ) → Starts k u8 n 0
+-- a search of a u8 starts at S, which is 0
+pub starts_8 : (k : Kind) {n start : ℕ} → start ≡ 0 → Starts k u8 n start
 unfolding start8
-starts_8 square n = record { is_cell_start = refl; fits = zero-le }
-starts_8 cube n = record { is_cell_start = refl; fits = zero-le }
+starts_8 square e = record { is_cell_start = e; fits = rw e zero-le }
+starts_8 cube e = record { is_cell_start = e; fits = rw e zero-le }
 
-searched_8 : (k : Kind) {n root rest steps : ℕ} → Fixed k n 0 root rest steps → Full k u8 n root rest 0 steps
-searched_8 k {n} {root} {rest} {steps} f = by_test (eqb n 0) refl
+-- the u8 bill: a search from S, which is 0, answers with the steps that it took
+pub searched_8 : (k : Kind) {n start root rest steps : ℕ} → Starts k u8 n start → Fixed k n start root rest steps →
+    Full k u8 n root rest start steps
+unfolding start8
+searched_8 k {n} {start} {root} {rest} {steps} s f = by_test (eqb n 0) refl
   where
-    by_test : (t : Bool) → eqb n 0 ≡ t → Full k u8 n root rest 0 steps
+    from_zero : start ≡ 0
+    from_zero = s.is_cell_start
+
+    by_test : (t : Bool) → eqb n 0 ≡ t → Full k u8 n root rest start steps
     by_test true e =
         let z = full_zero k u8 (eqb-true n 0 e) in
         record {
           root_rem = f.root_rem;
-          is_start = z.is_start;
-          is_steps = omega (arith, f.counted, (one_answer k f.root_rem z.root_rem).0, z.is_steps);
+          is_start = from_zero ∙ z.is_start;
+          is_steps = omega (arith, f.counted, from_zero, (one_answer k f.root_rem z.root_rem).0, z.is_steps);
         }
     by_test false e =
-        let bill = billed k u8 (starts_8 k n) f in
+        let bill = billed k u8 s f in
         full_raised k u8 (eqb-false n 0 e) f.root_rem (rw (raised_8 k n) bill.0) (rw (raised_8 k n) bill.1)
-
--- an answer that says what the search found
-pub billed_8 : (k : Kind) {n a b c root rest start steps : ℕ} → root ≡ a → rest ≡ b → start ≡ 0 → steps ≡ c →
-    Fixed k n 0 a b c → Full k u8 n root rest start steps
-billed_8 k p q r s f = rw (p, q, r, s) (searched_8 k f)

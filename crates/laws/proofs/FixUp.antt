@@ -7,8 +7,8 @@ use native.Mathlib.Nat.{mul-le-mul, mul-le-mul_left, le_trans, lt_of_le_of_lt, l
 use native.Mathlib.Omega.{arith}
 use lib.Dec.{lit≤}
 use Rattle.defs.specs.Kinds.{Kind, square, cube, pow, Width, u8, u16, u32, u64, bits_of, root_bits}
-use Rattle.defs.specs.Parts.{Fixed}
-use Rattle.laws.proofs.Powers.{le_or_lt, gap, next_power, below}
+use Rattle.defs.specs.Parts.{Fixed, gap, widened}
+use Rattle.laws.proofs.Powers.{le_or_lt, next_power, below}
 use Rattle.laws.proofs.Roots.{is_root}
 
 -- where a fix-up from `start` stands: at s, with what the power of s leaves of n, and the gap to the next power
@@ -18,12 +18,7 @@ pub record Walk (k : Kind) (w : Width) (n start s left next : ℕ) : Type 0 wher
   pub leaves : pow k s + left ≡ n
   pub is_gap : next ≡ gap k s
 
--- the next gap: two more, or six times the new root more
-abbrev pub widened : Kind → ℕ → ℕ → ℕ
-widened square s g = g + 2
-widened cube s g = g + 6 * (s + 1)
-
-gap_widens : (k : Kind) (s : ℕ) → widened k s (gap k s) ≡ gap k (s + 1)
+gap_widens : (k : Kind) (s : ℕ) → widened k (gap k s) (s + 1) ≡ gap k (s + 1)
 gap_widens square s = omega arith
 gap_widens cube s = omega arith
 
@@ -32,7 +27,7 @@ pub begins : (k : Kind) (w : Width) {n start : ℕ} → pow k start ≤ n → n 
 begins k w {n} {start} low high = record { in_width = high; passed = omega arith; leaves = omega arith; is_gap = refl }
 
 pub goes_on : {k : Kind} {w : Width} {n start s left next : ℕ} → Walk k w n start s left next → next ≤ left →
-    Walk k w n start (s + 1) (left - next) (widened k s next)
+    Walk k w n start (s + 1) (left - next) (widened k next (s + 1))
 goes_on {k} {w} {n} {start} {s} {left} {next} at h = record {
   in_width = at.in_width;
   passed = omega arith;
@@ -46,6 +41,14 @@ ends {k} {w} {n} {start} {s} {left} {next} at h counted = record {
   root_rem = record { is_root = is_root k (omega arith) (omega (arith, next_power k s)); is_rest = omega arith };
   counted = counted;
 }
+
+-- a step takes something off
+gap_some : (k : Kind) (s : ℕ) → 0 < gap k s
+gap_some square s = omega arith
+gap_some cube s = omega arith
+
+pub steps_down : {k : Kind} {w : Width} {n start s left next : ℕ} → Walk k w n start s left next → next ≤ left → left - next < left
+steps_down {k} {s = s} at h = omega (arith, h, at.is_gap, gap_some k s)
 
 -- from 4 on a gap is at most its power, and below it is small: it fits wherever the power's value does
 gap_small : (k : Kind) (s : ℕ) → s ≤ 3 → gap k s < 256

@@ -1,4 +1,4 @@
--- Powers over the kind: they rise, and the gap from one to the next is what a fix-up step takes off. Assumes nothing.
+-- Powers over the kind: they rise, by the gap that a fix-up step takes off. Assumes nothing.
 use mathlib.Core.Path.{◌≡◌, refl}
 use mathlib.Core.Bool.{Bool, true, false}
 use mathlib.Core.Logic.{◌⊎◌, inl, inr}
@@ -8,6 +8,7 @@ use native.Mathlib.Omega.{arith}
 use lib.Dec.{leb}
 use borrow.Author.Tests.{leb-true, leb-false}
 use Rattle.defs.specs.Kinds.{Kind, square, cube, pow}
+use Rattle.defs.specs.Parts.{gap}
 
 -- either way round: a test that goes by cases
 pub le_or_lt : (a b : ℕ) → (a ≤ b) ⊎ (b < a)
@@ -17,11 +18,7 @@ le_or_lt a b = by_test (leb a b) refl
     by_test true e = inl (leb-true a b e)
     by_test false e = inr (leb-false a b e)
 
--- from the power of s to that of s + 1: the next odd number, or the next difference of cubes
-abbrev pub gap : Kind → ℕ → ℕ
-gap square s = 2 * s + 1
-gap cube s = 3 * (s * s + s) + 1
-
+-- the gap is what leads from one power to the next
 pub next_power : (k : Kind) (s : ℕ) → pow k (s + 1) ≡ pow k s + gap k s
 next_power square s = omega arith
 next_power cube s = omega arith

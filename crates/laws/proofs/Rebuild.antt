@@ -7,7 +7,8 @@ use native.Mathlib.Omega.{arith}
 use Rattle.defs.specs.Kinds.{Kind, square, cube, Width, pow, bits_of}
 use Rattle.defs.specs.Roots.{RootRem}
 use Rattle.defs.specs.Rebuild.{rest_limit, Rebuilt}
-use Rattle.laws.proofs.Powers.{le_or_lt, gap, next_power}
+use Rattle.defs.specs.Parts.{gap}
+use Rattle.laws.proofs.Powers.{le_or_lt, next_power}
 use Rattle.laws.proofs.Roots.{is_root, root_above, comes_back}
 
 -- the limit is one below the gap to the next power

@@ -2,7 +2,7 @@
 use mathlib.Core.Path.{◌≡◌, refl, sym, ap, ◌∙◌}
 use mathlib.Core.Logic.{◌⊎◌, inl, inr}
 use Prim.Native.Nat.{ℕ, suc, ◌+◌, ◌*◌, ◌-◌, ◌/◌, ◌%◌, ◌^◌, ◌≤◌, ◌<◌, zero-le}
-use native.Mathlib.Nat.{mul-one, lt_irrefl, lt_of_le_of_lt, le_trans, lt_of_lt_of_le, le_of_eq, mul-le-mul_right, le_of_mul-le-mul_right, lt_of_mul-lt-mul_right, div-mul-le_self, lt-div-mul-add, mod-lt, mod-eq_of_lt, div-add-mod, mul-div_right}
+use native.Mathlib.Nat.{not-suc-le-zero, mul-one, lt_irrefl, lt_of_le_of_lt, le_trans, lt_of_lt_of_le, le_of_eq, mul-le-mul_right, le_of_mul-le-mul_right, lt_of_mul-lt-mul_right, div-mul-le_self, lt-div-mul-add, mod-lt, mod-eq_of_lt, div-add-mod, mul-div_right}
 use native.Mathlib.Omega.{arith}
 use lib.Dec.{lit≤, lit<}
 use lib.Count.{count_leading_zeros, leading_top}
@@ -78,10 +78,11 @@ bound_is cube u32 v = refl
 bound_is cube u64 v = refl
 
 -- the shift is a multiple of the degree, and taken off the root it stays within the root's bits
+lowered_is : (d m : ℕ) → lowered d m ≡ d * (m / d)
+lowered_is d m = omega (arith, div-add-mod m d)
+
 multiple : (d m : ℕ) → 0 < d → d * (lowered d m / d) ≡ lowered d m
-multiple d m pos =
-    let l : lowered d m ≡ d * (m / d) = omega (arith, div-add-mod m d) in
-    rw (l, mul-div_right (m / d) pos)
+multiple d m pos = rw (lowered_is d m, mul-div_right (m / d) pos)
 
 shift_multiple : (k : Kind) (w : Width) (n : ℕ) → degree k * (shift_of k w n / degree k) ≡ shift_of k w n
 unfolding shift_of
@@ -101,6 +102,21 @@ half_of_bits cube u16 s v h = omega arith
 half_of_bits cube u32 s v h = omega arith
 half_of_bits cube u64 s v h = omega arith
 
+-- a width whose bound is not 0 is one of them
+pub bound_wide : (k : Kind) (w : Width) → 0 < bound k w → Wide w
+bound_wide square u8 h = not-suc-le-zero h
+bound_wide cube u8 h = not-suc-le-zero h
+bound_wide k u16 h = tt
+bound_wide k u32 h = tt
+bound_wide k u64 h = tt
+
+is_shift_of : (k : Kind) (w : Width) → Wide w → (n : ℕ) → degree k * (count_leading_zeros (bits_of w) n / degree k) ≡ shift_of k w n
+unfolding shift_of
+is_shift_of k u8 v n = elim v [ ]
+is_shift_of k u16 v n = sym (lowered_is (degree k) (count_leading_zeros 16 n))
+is_shift_of k u32 v n = sym (lowered_is (degree k) (count_leading_zeros 32 n))
+is_shift_of k u64 v n = sym (lowered_is (degree k) (count_leading_zeros 64 n))
+
 -- what a full call knows once it has the shift of a value that is not 0
 pub shifts : (k : Kind) (w : Width) → Wide w → {n shift back : ℕ} → 0 < n → n < 2 ^ bits_of w → shift ≡ shift_of k w n →
     back ≡ shift / degree k → Shifts k w n shift back
@@ -113,6 +129,12 @@ shifts k w v {n} {shift} p h e b =
       back_in_width = rw (b, e) (half_of_bits k w (shift_of k w n) v l.short);
       to_bound = rw (e, mod-eq_of_lt l.kept, ← (bound_is k w v)) l.topped;
     }
+
+-- such a shift is as much for each factor of the power as the leading zeros have room for
+pub shifts_by : (k : Kind) (w : Width) → Wide w → {n back : ℕ} → 0 < n → n < 2 ^ bits_of w →
+    back ≡ count_leading_zeros (bits_of w) n / degree k → Shifts k w n (degree k * back) back
+shifts_by k w v {n} {back} p h b =
+    shifts k w v p h (rw b (is_shift_of k w v n)) (rw (mul-div_right back (degree_small k).0))
 
 -- the machine's shift is the value brought to its top bits: nothing is cut off
 pub raises : (k : Kind) (w : Width) → Wide w → {n shift back : ℕ} → 0 < n → n < 2 ^ bits_of w → Shifts k w n shift back →

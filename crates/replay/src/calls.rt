@@ -1,44 +1,74 @@
-// The calls that the list is held against, by degree and width.
-mod at16;
-mod at32;
-mod at64;
-mod at8;
+// The calls that the list is held against, over the value's type.
+use crate::list::Kind;
+use refusals::Refusal;
+use roots::{RootRem, Start};
+use values::{Cube, Square, Word};
 
 // What the calls on a value answer: the full call, the root alone, whether the normalised call answers or refuses as it
-// should, and whether the value is rebuilt from its root and rest. `known` is false where there are no such calls.
+// should, and whether the value is rebuilt from its root and rest.
 #[derive(Clone, Copy)]
 pub(crate) struct Found {
-    pub(crate) known: bool,
-    pub(crate) root: u64,
-    pub(crate) rest: u64,
-    pub(crate) start: u64,
-    pub(crate) steps: u64,
+    pub(crate) full: RootRem<u64, u64>,
     pub(crate) alone: u64,
     pub(crate) normalised: bool,
     pub(crate) rebuilt: bool,
 }
 
-pub(crate) fn call(degree: u64, width: u64, value: u64) -> Found {
-    if width == 8 {
-        return at8::call(degree, value);
+// What they answer at a width, if a type has it.
+pub(crate) fn call(kind: Kind, width: u64, value: u64) -> Option<Found> {
+    match width {
+        8 => Some(all_calls::<u8>(kind, value)),
+        16 => Some(all_calls::<u16>(kind, value)),
+        32 => Some(all_calls::<u32>(kind, value)),
+        64 => Some(all_calls::<u64>(kind, value)),
+        _ => None,
     }
-    if width == 16 {
-        return at16::call(degree, value);
+}
+
+fn all_calls<N: Start<Square> + Start<Cube>>(kind: Kind, value: u64) -> Found {
+    let n = N::narrowed(value & N::top());
+    match kind {
+        Kind::Square => {
+            let full = roots::sqrt_rem(n);
+            Found {
+                full: wide::<N>(full),
+                alone: roots::sqrt(n).wide(),
+                normalised: agrees::<N>(kind, n, full, roots::normalized_sqrt_rem(n)),
+                rebuilt: rebuild::square::<N>(full.root, full.rest) == Ok(n),
+            }
+        }
+        Kind::Cube => {
+            let full = roots::cbrt_rem(n);
+            Found {
+                full: wide::<N>(full),
+                alone: roots::cbrt(n).wide(),
+                normalised: agrees::<N>(kind, n, full, roots::normalized_cbrt_rem(n)),
+                rebuilt: rebuild::cube::<N>(full.root, full.rest) == Ok(n),
+            }
+        }
     }
-    if width == 32 {
-        return at32::call(degree, value);
+}
+
+fn wide<N: Start<Square>>(a: RootRem<N, N::Root>) -> RootRem<u64, u64> {
+    RootRem {
+        root: a.root.wide(),
+        rest: a.rest.wide(),
+        start: a.start.wide(),
+        steps: a.steps.wide(),
     }
-    if width == 64 {
-        return at64::call(degree, value);
-    }
-    Found {
-        known: false,
-        root: 0,
-        rest: 0,
-        start: 0,
-        steps: 0,
-        alone: 0,
-        normalised: false,
-        rebuilt: false,
+}
+
+// The normalised call refuses a value without its top bits, and any other answers as the full call does. Each u8 counts as
+// one that has them.
+fn agrees<N: Start<Square>>(
+    kind: Kind,
+    n: N,
+    full: RootRem<N, N::Root>,
+    normalised: Result<RootRem<N, N::Root>, Refusal>,
+) -> bool {
+    let topped = N::top() == 255 || n.wide() > N::top() >> kind.degree();
+    match normalised {
+        Ok(answer) => topped && answer == full,
+        Err(refusal) => !topped && refusal == Refusal::NotNormalised,
     }
 }

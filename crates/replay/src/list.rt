@@ -1,8 +1,45 @@
 // The list of the Rust's answers: runs of 32 bytes, lowest byte first (oracle/README.md).
 ghost use Rattle.std.specs.Prelude.{◌<◌};
 
-// How many bytes a run takes.
-pub(crate) const RUN: usize = 32;
+use bytes::Buf;
+use std::fmt;
+
+#[derive(Clone, Copy, Debug, PartialEq, Eq)]
+pub(crate) enum Kind {
+    Square,
+    Cube,
+}
+
+impl Kind {
+    pub(crate) fn degree(self) -> u32
+        ensures { result < 4 }
+    {
+        match self {
+            Kind::Square => 2,
+            Kind::Cube => 3,
+        }
+    }
+}
+
+// By the degree that the list has.
+impl From<u8> for Kind {
+    fn from(degree: u8) -> Kind {
+        if degree == 2 {
+            Kind::Square
+        } else {
+            Kind::Cube
+        }
+    }
+}
+
+impl fmt::Display for Kind {
+    fn fmt<W: fmt::Write>(&self, f: &mut fmt::Formatter<W>) -> fmt::Result {
+        f.write_str(match self {
+            Kind::Square => "square",
+            Kind::Cube => "cube",
+        })
+    }
+}
 
 // `count` values from `value` on that share root, start and steps, with rests that rise by one.
 #[derive(Clone, Copy)]
@@ -12,48 +49,24 @@ pub(crate) struct Run {
     pub(crate) root: u64,
     pub(crate) start: u64,
     pub(crate) count: u64,
-    pub(crate) degree: u64,
+    pub(crate) kind: Kind,
     pub(crate) width: u64,
     pub(crate) steps: u64,
 }
 
-fn wide(byte: u8) -> u64 {
-    byte as u64
-}
-
-// The byte at an index, and 0 past the end.
-fn byte(s: &[u8], at: usize) -> u64 {
-    if at < s.len() { wide(s[at]) } else { 0 }
-}
-
-fn two(s: &[u8], at: usize) -> u64
-    requires { at < 4096 }
-{
-    byte(s, at) | (byte(s, at + 1) << 8)
-}
-
-fn four(s: &[u8], at: usize) -> u64
-    requires { at < 2048 }
-{
-    two(s, at) | (two(s, at + 2) << 16)
-}
-
-fn eight(s: &[u8], at: usize) -> u64
-    requires { at < 1024 }
-{
-    four(s, at) | (four(s, at + 4) << 32)
-}
-
-// The run whose bytes are those of `s`.
-pub(crate) fn run_of(s: &[u8]) -> Run {
-    Run {
-        value: eight(s, 0),
-        rest: eight(s, 8),
-        root: four(s, 16),
-        start: four(s, 20),
-        count: two(s, 24),
-        degree: byte(s, 26),
-        width: byte(s, 27),
-        steps: byte(s, 28),
+// The fields stand in the order of the bytes.
+impl From<[u8; 32]> for Run {
+    fn from(bytes: [u8; 32]) -> Run {
+        let mut rest: &[u8] = &bytes;
+        Run {
+            value: rest.get_u64_le(),
+            rest: rest.get_u64_le(),
+            root: rest.get_u32_le() as u64,
+            start: rest.get_u32_le() as u64,
+            count: rest.get_u16_le() as u64,
+            kind: Kind::from(rest.get_u8()),
+            width: rest.get_u8() as u64,
+            steps: rest.get_u8() as u64,
+        }
     }
 }

@@ -11,7 +11,7 @@ use Rattle.defs.specs.Kinds.{Kind, square, cube}
 use Rattle.laws.proofs.Powers.{le_or_lt}
 use Rattle.text.specs.Request.{Asks, word_of}
 use Rattle.text.specs.Writing.{Wrote}
-use Rattle.text.specs.declared.write.Written.{Written}
+use Rattle.std.specs.Prelude.{Option}
 use Rattle.text.proofs.Writing.{wrote_same}
 use Rattle.reply.specs.Lines.{bad_input}
 use Rattle.reply.specs.Reply.{reply_of, Replied}
@@ -38,17 +38,17 @@ cut_reply n s h = by_size (le_or_lt (length s) n)
     by_size (inr long) = long_reply (take n s) (omega (arith, length-take-le n s (omega arith))) ∙ sym (long_reply s (omega arith))
 
 -- so a window longer than any good input is enough: the reply to what was read is the reply to every input of which it was read
-pub replied : {window : List ℕ} {read : ℕ} {old new : List ℕ} {r : Written} → 18 < length window →
+pub replied : {window : List ℕ} {read : ℕ} {old new : List ℕ} {r : Option ℕ} → 18 < length window →
     Wrote old 0 (reply_of (take read window)) new r → Replied window read old new r
 replied {window} long w = record { to_each = λ input seen. wrote_same (ap reply_of seen ∙ cut_reply (length window) input long) w }
 
 -- what was read is such an input itself
-pub own_reply : {window : List ℕ} {read : ℕ} {old new : List ℕ} {r : Written} → Replied window read old new r →
+pub own_reply : {window : List ℕ} {read : ℕ} {old new : List ℕ} {r : Option ℕ} → Replied window read old new r →
     Wrote old 0 (reply_of (take read window)) new r
 own_reply {window} {read} a = a.to_each (take read window) (sym (take_all (length window) (take read window) (omega (arith, length-take read window))))
 
 -- so no second output and no second answer fit
-pub one_reply : {window : List ℕ} {read : ℕ} {old new new' : List ℕ} {r r' : Written} → Replied window read old new r →
+pub one_reply : {window : List ℕ} {read : ℕ} {old new new' : List ℕ} {r r' : Option ℕ} → Replied window read old new r →
     Replied window read old new' r' → (new ≡ new') × (r ≡ r')
 one_reply a b =
     let p = own_reply a in

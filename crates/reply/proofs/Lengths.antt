@@ -1,6 +1,5 @@
 -- How long a reply is at most: short enough for the 128 bytes in which it is put together. Assumes nothing.
 use mathlib.Core.Path.{◌≡◌, refl}
-use mathlib.Core.Bool.{Bool, true, false}
 use mathlib.Core.List.{List, [], ◌∷◌, ◌++◌}
 use Prim.Native.Nat.{ℕ, zero, suc, ◌+◌, ◌^◌, ◌≤◌, ◌<◌}
 use native.Mathlib.Nat.{zero-mul}
@@ -15,12 +14,13 @@ use Rattle.laws.proofs.FixUp.{root_fits}
 use Rattle.laws.proofs.Shift.{raised_top}
 use Rattle.starts.proofs.Calls.{full_counts}
 use Rattle.text.specs.Decimal.{text_of}
+use Rattle.std.specs.Prelude.{Option, Some, None}
 use Rattle.text.specs.Request.{kind_of, request_of}
+use Rattle.text.specs.declared.request.Request.{Request}
 use Rattle.text.proofs.Texts.{text_length_32}
 use Rattle.text.proofs.Asking.{asks}
 use Rattle.reply.specs.Lines.{line, number_line, width_name, kind_name, value_name, root_name, rest_name, start_name, steps_name, kind_text, asked_lines, found_lines}
-use Rattle.reply.specs.Reply.{answer_of, reply_of}
-use Rattle.reply.proofs.Replies.{answer_good, answer_bad}
+use Rattle.reply.specs.Reply.{answer_of, answer_to, reply_of}
 
 -- a value brought to its top bits stays within its width
 raised_fits : (k : Kind) (w : Width) (n : ℕ) → n < 2 ^ bits_of w → raised k w n < 2 ^ bits_of w
@@ -68,9 +68,9 @@ answer_length k v h =
 
 -- every reply
 pub reply_length : (s : List ℕ) → length (reply_of s) ≤ 128
-unfolding reply_of
-reply_length s = by_test (request_of s).ok refl
+unfolding reply_of answer_to
+reply_length s = by_cases (request_of s) refl
   where
-    by_test : (t : Bool) → (request_of s).ok ≡ t → length (reply_of s) ≤ 128
-    by_test true e = rw (answer_good (request_of s) e) (answer_length (kind_of (request_of s).cube) (request_of s).value (omega (arith, (asks s e).reads.small)))
-    by_test false e = rw (answer_bad (request_of s) e) (lit≤ tt)
+    by_cases : (r : Option Request) → request_of s ≡ r → length (reply_of s) ≤ 128
+    by_cases (Some r) e = rw e (answer_length (kind_of r.kind) r.value (omega (arith, (asks s e).reads.small)))
+    by_cases None e = rw e (lit≤ tt)

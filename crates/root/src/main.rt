@@ -5,12 +5,11 @@ use std::process::ExitCode;
 
 fn main(rt: HostRuntime) -> ExitCode {
     // A good input has at most 18 bytes, so one that goes on behind the 32 of the window is bad, whatever stands there.
-    let mut window = [0u8; 32];
+    let mut window = [0; 32];
     // A read that fails counts as the end of the input.
     let (read, _) = input::read_full(&mut rt.stdin(), &mut window);
-    let mut out = [0u8; 128];
-    let written = reply::reply_to_window(&window, read, &mut out);
-    let end = written.next;
+    let mut out = [0; 128];
+    let end = reply::reply_to_window(&window, read, &mut out).unwrap();
     match rt.write_all(&out[..end]) {
         Ok(()) => ExitCode::SUCCESS,
         Err(_) => {

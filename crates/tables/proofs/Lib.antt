@@ -1,2 +1,1 @@
 pub mod Bracket
-mod Held

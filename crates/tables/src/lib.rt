@@ -1,9 +1,9 @@
-// The two tables of first guesses; `words` looks them up, at every index.
+// The two tables of first guesses, and `guess`, which looks them up at every index.
 #![tactic(auto)]
 
-mod words;
+mod table;
 
-pub use words::{rcbrt_guess, rsqrt_guess};
+pub use table::{Table, guess};
 
 // 1/√x at 9 bits, without the top bit, for x = 32 + i.
 const RSQRT_TAB: [u8; 96] = [

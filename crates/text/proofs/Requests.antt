@@ -1,85 +1,39 @@
--- What the code of a request keeps and tells apart: a word compared byte by byte, the cases of a line, the two kinds. Assumes nothing.
-use mathlib.Core.Path.{◌≡◌, refl, ◌∙◌}
-use mathlib.Core.Bool.{Bool, true, false, cond}
-use mathlib.Core.List.{List, ◌∷◌}
-use Prim.Native.Nat.{ℕ, suc, ◌+◌, ◌-◌, ◌≤◌, ◌<◌}
-use native.Mathlib.Numerals.{add-one}
+-- What a text asks behind its word and before its newline, and where it asks nothing. Assumes nothing.
+use mathlib.Core.Path.{◌≡◌, refl, ap}
+use mathlib.Core.List.{List, ◌++◌}
+use Prim.Native.Nat.{ℕ, ◌-◌}
 use native.Mathlib.Omega.{arith}
-use lib.Dec.{eqb}
-use lib.ListN.{length, get_or, take, drop, length-drop, drop_of_length-le}
-use lib.Seq.{drop-cons, get_or-drop}
-use borrow.Author.Tests.{eq-eqb, ne_eqb}
-use Rattle.text.specs.Request.{word_of, number_of, starts_with, bad, good, numbered, line_of, asked_of, request_of}
-use Rattle.text.specs.declared.request.Request.{Request}
-use Rattle.defs.specs.Kinds.{square, cube}
-use Rattle.text.specs.declared.read.Decimal.{Decimal}
+use lib.ListN.{length, length-append}
+use lib.Seq.{drop-append_seam, take-append_seam}
+use Rattle.std.specs.Prelude.{None, nat_eq}
+use Rattle.std.specs.List.{starts_with, ends_with}
+use Rattle.std.specs.Option.{option_map}
+use Rattle.std.proofs.lemmas.Bool.{false_from_ne_true}
+use Rattle.std.proofs.lemmas.Bool.Decides.{Decides-eqb}
+use Rattle.std.proofs.lemmas.Slice.Eq.{starts_is, ends_is}
+use Rattle.text.specs.Request.{newline, number_of, good, line_of, asked_of}
+use Rattle.text.specs.declared.request.Kind.{Kind as Named}
 
--- the first i bytes of the word and of the text are the same: what is left of them decides
-pub record Matches (word s : List ℕ) (i : ℕ) : Type 0 where
-  pub in_word : i ≤ length word
-  pub in_text : i ≤ length s
-  pub decides : starts_with word s ≡ starts_with (drop i word) (drop i s)
-
-pub match_begins : (word s : List ℕ) → Matches word s 0
-match_begins word s = record { in_word = omega arith; in_text = omega arith; decides = refl }
-
-module _ {word s : List ℕ} {i : ℕ} (m : Matches word s i) where
-  pub match_ends : length word ≤ i → starts_with word s ≡ true
-  match_ends h = m.decides ∙ rw (drop_of_length-le word h)
-
-  pub match_short : i < length word → length s ≤ i → starts_with word s ≡ false
-  match_short h k = m.decides ∙ rw (drop-cons word i 0 h, drop_of_length-le s k)
-
-  compared : i < length word → i < length s → starts_with word s ≡ starts_with (get_or word i 0 ∷ drop (suc i) word) (get_or s i 0 ∷ drop (suc i) s)
-  compared h k = m.decides ∙ rw (drop-cons word i 0 h, drop-cons s i 0 k)
-
-  pub match_differs : i < length word → i < length s → (get_or s i 0 ≡ get_or word i 0 → ⊥) → starts_with word s ≡ false
-  match_differs h k differs = compared h k ∙ rw (ne_eqb (get_or s i 0) (get_or word i 0) differs)
-
-  pub match_on : i < length word → i < length s → get_or s i 0 ≡ get_or word i 0 → Matches word s (i + 1)
-  match_on h k same = record {
-    in_word = omega arith;
-    in_text = omega arith;
-    decides = compared h k ∙ rw (eq-eqb (get_or s i 0) (get_or word i 0) same, add-one);
-  }
-
--- the cases of `asked_of`, as the code tells them apart
-module _ (word : List ℕ) (c : Bool) (s : List ℕ) where
-  pub no_word : starts_with word s ≡ false → asked_of word c s ≡ bad
+module _ (word : List ℕ) (k : Named) where
+  -- what stands behind the word is the line
+  pub behind_word : {s : List ℕ} (t : List ℕ) → s ≡ word ++ t → asked_of word k s ≡ line_of k t
   unfolding asked_of
-  no_word e = rw e
+  behind_word {s} t e = rw ((starts_is Decides-eqb s word _ refl).1 t e, e, drop-append_seam word t)
 
-  pub word_alone : starts_with word s ≡ true → length s ≤ length word → asked_of word c s ≡ bad
-  unfolding asked_of line_of
-  word_alone e h = rw (e, drop_of_length-le s {i = length word} h)
+  -- a text without the word in front asks nothing
+  pub no_word : (s : List ℕ) → ((t : List ℕ) → s ≡ word ++ t → ⊥) → asked_of word k s ≡ None
+  unfolding asked_of
+  no_word s none = rw (false_from_ne_true (starts_with nat_eq s word) (λ e. none _ ((starts_is Decides-eqb s word _ refl).0 e)))
 
-  -- behind the word stands a text t, whose last byte is that of s
-  module _ (e : starts_with word s ≡ true) (h : length word < length s) where
-    line : asked_of word c s ≡
-        cond (eqb (get_or s (length s - 1) 0) 10) (numbered c (number_of (take (length s - 1 - length word) (drop (length word) s)))) bad
-    unfolding asked_of line_of
-    line =
-        let last : length word + (length s - length word - 1) ≡ length s - 1 = omega arith in
-        let rest : length s - length word - 1 ≡ length s - 1 - length word = omega arith in
-        rw (e, length-drop, get_or-drop, last, rest)
+module _ (k : Named) where
+  -- what stands before the newline is the number
+  pub before_newline : {t : List ℕ} (digits : List ℕ) → t ≡ digits ++ newline → line_of k t ≡ option_map (good k) (number_of digits)
+  unfolding line_of
+  before_newline {t} digits e =
+      let long : length t - 1 ≡ length digits = omega (arith, length-append digits newline, ap length e) in
+      rw ((ends_is Decides-eqb t newline _ refl).1 digits e, long, e, take-append_seam digits newline)
 
-    pub no_newline : (get_or s (length s - 1) 0 ≡ 10 → ⊥) → asked_of word c s ≡ bad
-    no_newline p = line ∙ rw (ne_eqb (get_or s (length s - 1) 0) 10 p)
-
-    module _ {d : Decimal} (p : get_or s (length s - 1) 0 ≡ 10)
-        (read : d ≡ number_of (take (length s - 1 - length word) (drop (length word) s))) where
-      pub no_number : d.ok ≡ false → asked_of word c s ≡ bad
-      no_number q = line ∙ rw (eq-eqb (get_or s (length s - 1) 0) 10 p, ← read, q)
-
-      pub numbered_line : d.ok ≡ true → asked_of word c s ≡ good c d.value
-      numbered_line q = line ∙ rw (eq-eqb (get_or s (length s - 1) 0) 10 p, ← read, q)
-
--- the two kinds are asked one after the other
-module _ (s : List ℕ) {a : Request} (first : a ≡ asked_of (word_of square) false s) where
-  pub first_asked : a.ok ≡ true → a ≡ request_of s
-  unfolding request_of
-  first_asked e = rw (← first, e)
-
-  pub second_asked : {b : Request} → a.ok ≡ false → b ≡ asked_of (word_of cube) true s → b ≡ request_of s
-  unfolding request_of
-  second_asked e second = rw (← first, e, second)
+  -- a line without a newline at its end asks nothing
+  pub no_newline : (t : List ℕ) → ((digits : List ℕ) → t ≡ digits ++ newline → ⊥) → line_of k t ≡ None
+  unfolding line_of
+  no_newline t none = rw (false_from_ne_true (ends_with nat_eq t newline) (λ e. none _ ((ends_is Decides-eqb t newline _ refl).0 e)))

@@ -2,15 +2,17 @@
 use mathlib.Core.Path.{◌≡◌, refl, sym, ◌∙◌, ap, subst}
 use mathlib.Core.Bool.{Bool, true, false}
 use mathlib.Core.List.{List, ◌++◌, append_assoc}
-use Prim.Native.Nat.{ℕ, ◌+◌, ◌≤◌, ◌<◌}
+use Prim.Native.Nat.{ℕ, ◌+◌, ◌-◌, ◌≤◌, ◌<◌}
 use native.Mathlib.Nat.{add_assoc}
-use native.Mathlib.Numerals.{add-one}
 use native.Mathlib.Omega.{arith}
-use lib.ListN.{length, get_or, take, drop, set, length-append, length-set}
-use lib.Seq.{take-length, paste, paste-zero, paste-suc, length-paste, take-paste, drop-paste, drop-drop}
+use lib.ListN.{length, take, drop, length-append}
+use lib.Seq.{take-length, paste, length-paste, take-paste, drop-paste, drop-drop}
+use borrow.Rule.Slice.PartMut.{put_mid}
 use borrow.Author.Tests.{le-leb, lt-leb, leb-true, leb-false}
-use Rattle.text.specs.Writing.{fits_at, pasted, wrote, Wrote}
-use Rattle.text.specs.declared.write.Written.{Written}
+use Rattle.std.specs.Prelude.{Option, Some, None}
+use Rattle.std.proofs.lemmas.Option.{same_Some}
+use Rattle.std.proofs.lemmas.Slice.{put_mid-paste}
+use Rattle.text.specs.Writing.{fits_at, pasted, Wrote}
 
 -- a write that fits, and one that does not
 pub pasted_fits : (old : List ℕ) (at : ℕ) (bytes : List ℕ) → at + length bytes ≤ length old →
@@ -28,44 +30,25 @@ pasted-paste old at bytes h =
     pasted_fits old at bytes h ∙ sym (append_assoc (take at old) bytes _) ∙ rw (take-length bytes)
 
 -- a write of the same bytes
-pub wrote_same : {old : List ℕ} {at : ℕ} {a b new : List ℕ} {r : Written} → a ≡ b → Wrote old at a new r → Wrote old at b new r
+pub wrote_same : {old : List ℕ} {at : ℕ} {a b new : List ℕ} {r : Option ℕ} → a ≡ b → Wrote old at a new r → Wrote old at b new r
 wrote_same {old} {at} {new = new} {r = r} e w = subst (λ (l : List ℕ). Wrote old at l new r) e w
 
 -- a write that does not fit leaves the list, and says so
-pub wrote_none : (old : List ℕ) (at : ℕ) (bytes : List ℕ) → length old < at + length bytes → Wrote old at bytes old (wrote false at 0)
+pub wrote_none : (old : List ℕ) (at : ℕ) (bytes : List ℕ) → length old < at + length bytes → Wrote old at bytes old None
 wrote_none old at bytes h = record {
   is_text = sym (pasted_past old at bytes h);
   is_answer = rw (lt-leb (at + length bytes) (length old) h);
 }
 
--- the first i bytes are in their places
-pub record Pasting (old : List ℕ) (at : ℕ) (bytes out : List ℕ) (i : ℕ) : Type 0 where
-  pub in_bytes : i ≤ length bytes
-  pub fits : at + length bytes ≤ length old
-  pub same_length : length out ≡ length old
-  pub so_far : out ≡ paste old at bytes i
-
-pub paste_begins : (old : List ℕ) (at : ℕ) (bytes : List ℕ) → at + length bytes ≤ length old → Pasting old at bytes old 0
-paste_begins old at bytes h = record { in_bytes = omega arith; fits = h; same_length = refl; so_far = paste-zero old at bytes }
-
-module _ {old : List ℕ} {at : ℕ} {bytes out : List ℕ} {i : ℕ} (p : Pasting old at bytes out i) where
-  pub paste_on : i < length bytes → Pasting old at bytes (set out (at + i) (get_or bytes i 0)) (i + 1)
-  paste_on h =
-      let room : at + i < length old = omega (arith, p.fits) in
-      record {
-        in_bytes = omega arith;
-        fits = p.fits;
-        same_length = length-set out (at + i) _ ∙ p.same_length;
-        so_far = rw (p.so_far, add-one) (paste-suc old at bytes i 0 room h);
-      }
-
-  pub paste_ends : length bytes ≤ i → Wrote old at bytes out (wrote true at i)
-  paste_ends h =
-      let all : i ≡ length bytes = omega (arith, p.in_bytes) in
-      record {
-        is_text = p.so_far ∙ rw all (sym (pasted-paste old at bytes p.fits));
-        is_answer = rw (all, le-leb (at + length bytes) (length old) p.fits);
-      }
+-- a part of the list that was overwritten with the bytes
+pub wrote_part : (old : List ℕ) (at end : ℕ) (bytes part : List ℕ) → end ≡ at + length bytes → end ≤ length old → part ≡ bytes →
+    Wrote old at bytes (put_mid at (end - at) old part) (Some end)
+wrote_part old at end bytes part e h same =
+    let fits : at + length bytes ≤ length old = omega arith in
+    record {
+      is_text = put_mid-paste at (end - at) old part bytes (length bytes) same (omega arith) refl ∙ sym (pasted-paste old at bytes fits);
+      is_answer = rw (le-leb (at + length bytes) (length old) fits, e);
+    }
 
 -- a write keeps the length
 pub length-pasted : (old : List ℕ) (at : ℕ) (bytes : List ℕ) → length (pasted old at bytes) ≡ length old
@@ -99,18 +82,18 @@ two_writes old at a b h =
         ∙ drop-drop (length b) next old
 
 -- the answer to a write that fits
-pub wrote_fits : {old : List ℕ} {at : ℕ} {bytes new : List ℕ} {r : Written} → at + length bytes ≤ length old → Wrote old at bytes new r →
-    r ≡ wrote true at (length bytes)
+pub wrote_fits : {old : List ℕ} {at : ℕ} {bytes new : List ℕ} {r : Option ℕ} → at + length bytes ≤ length old → Wrote old at bytes new r →
+    r ≡ Some (at + length bytes)
 wrote_fits {old} {at} {bytes} h w = w.is_answer ∙ rw (le-leb (at + length bytes) (length old) h)
 
 -- the same of the writers: two writes in a row, the second where the first ended
-pub writes_on : {old : List ℕ} {at : ℕ} {a b mid new : List ℕ} {r q : Written} → at + length (a ++ b) ≤ length old →
-    Wrote old at a mid r → Wrote mid r.next b new q → Wrote old at (a ++ b) new q
-writes_on {old} {at} {a} {b} {mid} {new} {r} {q} h first second =
-    let next : r.next ≡ at + length a = ap (λ (x : Written). x.next) (wrote_fits (omega (arith, length-append a b)) first) in
+pub writes_on : {old : List ℕ} {at next : ℕ} {a b mid new : List ℕ} {r : Option ℕ} → at + length (a ++ b) ≤ length old →
+    Wrote old at a mid (Some next) → Wrote mid next b new r → Wrote old at (a ++ b) new r
+writes_on {old} {at} {next} {a} {b} {mid} {new} h first second =
+    let place : next ≡ at + length a = same_Some _ _ (wrote_fits (omega (arith, length-append a b)) first) in
     let long : length mid ≡ length old = ap length first.is_text ∙ length-pasted old at a in
-    let end : r.next + length b ≡ at + length (a ++ b) = omega (arith, length-append a b) in
+    let end : next + length b ≡ at + length (a ++ b) = omega (arith, length-append a b) in
     record {
-      is_text = second.is_text ∙ rw (next, first.is_text) (two_writes old at a b h);
+      is_text = second.is_text ∙ rw (place, first.is_text) (two_writes old at a b h);
       is_answer = wrote_fits (omega arith) second ∙ rw (end, le-leb (at + length (a ++ b)) (length old) h);
     }

@@ -1,12 +1,8 @@
--- Inputs that are near a good request and are none. That each is answered as bad is the theorem `all_bad`.
+-- Inputs that are near a good request and are none. That none of them is answered is the theorem `all_bad`.
 use Rattle.std.specs.Prelude.{List, [], ◌∷◌, ◌++◌, ℕ, ◌-◌, length, get_or, take, drop, replicate}
 use Rattle.defs.specs.Kinds.{Kind}
 use Rattle.text.specs.Decimal.{text_of}
-use Rattle.text.specs.Request.{word_of}
-
--- the byte that ends a line
-abbrev newline : List ℕ
-newline = 10 ∷ []
+use Rattle.text.specs.Request.{word_of, newline}
 
 -- the word of the kind and its space, some text, and a newline
 abbrev asking : Kind → List ℕ → List ℕ

@@ -1,6 +1,6 @@
 -- Writing bytes into a list that is lent: all of them from a place on, or none.
-use Rattle.std.specs.Prelude.{◌≡◌, Bool, true, false, cond, List, ◌++◌, ℕ, ◌+◌, leb, length, take, drop}
-use Rattle.text.specs.declared.write.Written.{Written}
+use Rattle.std.specs.Prelude.{◌≡◌, Bool, cond, List, ◌++◌, ℕ, ◌+◌, leb, length, take, drop, Option}
+use Rattle.std.specs.Bool.{then_some}
 
 -- the bytes fit into the list from the place on
 abbrev pub fits_at : List ℕ → ℕ → List ℕ → Bool
@@ -10,12 +10,8 @@ fits_at old at bytes = leb (at + length bytes) (length old)
 unfoldable pub pasted : List ℕ → ℕ → List ℕ → List ℕ
 pasted old at bytes = cond (fits_at old at bytes) (take at old ++ (bytes ++ drop (at + length bytes) old)) old
 
--- what a writer answers: that it wrote, and the place behind the bytes; or that it did not, and the place itself
-abbrev pub wrote : Bool → ℕ → ℕ → Written
-wrote true at n = record { ok = true; next = at + n }
-wrote false at n = record { ok = false; next = at }
-
--- a write of the bytes at the place: what the list is afterwards, and the answer
-pub record Wrote (old : List ℕ) (at : ℕ) (bytes new : List ℕ) (r : Written) : Type 0 where
+-- a write of the bytes at the place: what the list is afterwards, and the answer, the place behind them.
+-- Where they don't fit, the list is as it was, and the answer is `None`
+pub record Wrote (old : List ℕ) (at : ℕ) (bytes new : List ℕ) (r : Option ℕ) : Type 0 where
   pub is_text : new ≡ pasted old at bytes
-  pub is_answer : r ≡ wrote (fits_at old at bytes) at (length bytes)
+  pub is_answer : r ≡ then_some (fits_at old at bytes) (at + length bytes)

@@ -5,6 +5,6 @@ mod read;
 mod request;
 mod write;
 
-pub use read::{Decimal, read_decimal};
-pub use request::{Request, request_of, starts_with};
-pub use write::{Written, write_bytes, write_decimal};
+pub use read::read_decimal;
+pub use request::{Kind, Request, request_of, starts_with};
+pub use write::{write_bytes, write_decimal};

@@ -1,72 +1,47 @@
 // The request line of the program `root`.
-ghost use Rattle.std.specs.Prelude.{◌≡◌};
-ghost use Rattle.text.specs.Request.{starts_with, asked_of, request_of};
+ghost use Rattle.std.specs.Prelude.{◌≡◌, nat_eq};
+ghost use Rattle.std.specs.List.{starts_with};
+ghost use Rattle.text.specs.Request.{asked_of, request_of};
 
 use crate::read::read_decimal;
 
-// What is asked: a square or a cube root, and of which value; false and 0 where nothing good is.
-#[derive(Clone, Copy)]
+// Which root is asked for.
+#[derive(Clone, Copy, PartialEq, Eq, Debug)]
+pub enum Kind {
+    Square,
+    Cube,
+}
+
+// What is asked: the root of one kind of one value.
+#[derive(Clone, Copy, PartialEq, Eq, Debug)]
 pub struct Request {
-    pub ok: bool,
-    pub cube: bool,
+    pub kind: Kind,
     pub value: u32,
 }
 
 // Whether the first bytes of `s` are those of `word`.
 pub fn starts_with(s: &[u8], word: &[u8]) -> bool
-    ensures { result ≡ starts_with word.now s.now }
+    ensures { result ≡ starts_with nat_eq s.now word.now }
 {
-    let mut i = 0;
-    while i < word.len() {
-        if i >= s.len() {
-            return false;
-        }
-        if s[i] != word[i] {
-            return false;
-        }
-        i += 1;
-    }
-    true
+    s.starts_with(word)
 }
 
 // The request for one kind: its word, which ends in the space, then digits and a newline.
-fn asked(s: &[u8], word: &[u8], cube: bool) -> Request
-    ensures { result ≡ asked_of word.now cube s.now }
+fn asked(s: &[u8], word: &[u8], kind: Kind) -> Option<Request>
+    ensures { result ≡ asked_of word.now kind s.now }
 {
-    let none = Request {
-        ok: false,
-        cube: false,
-        value: 0,
-    };
-    if !starts_with(s, word) {
-        return none;
-    }
-    let at = word.len();
-    if s.len() <= at {
-        return none;
-    }
-    let end = s.len() - 1;
-    if s[end] != b'\n' {
-        return none;
-    }
-    let digits = read_decimal(&s[at..end], 10, 4294967295);
-    if !digits.ok {
-        return none;
-    }
-    Request {
-        ok: true,
-        cube,
-        value: digits.value as u32,
-    }
+    let digits = s.strip_prefix(word)?.strip_suffix(b"\n")?;
+    let value = read_decimal(digits, 10, u32::MAX as u64)?;
+    Some(Request {
+        kind,
+        value: value as u32,
+    })
 }
 
 // What the whole input asks for.
-pub fn request_of(s: &[u8]) -> Request
+#[tactic(auto, unfolding(crate::specs::Request::request_of))]
+pub fn request_of(s: &[u8]) -> Option<Request>
     ensures { result ≡ request_of s.now }
 {
-    let square = asked(s, b"square ", false);
-    if square.ok {
-        return square;
-    }
-    asked(s, b"cube ", true)
+    asked(s, b"square ", Kind::Square).or_else(|| asked(s, b"cube ", Kind::Cube))
 }

@@ -3,38 +3,18 @@ ghost use Rattle.std.specs.Prelude.{◌≡◌, ◌+◌, ◌≤◌, ◌<◌, leng
 ghost use Rattle.text.specs.Decimal.{text_of};
 ghost use Rattle.text.specs.Writing.{Wrote};
 
-// Whether all was written, and the place behind it; where nothing was, the place where it should have gone.
-#[derive(Clone, Copy)]
-pub struct Written {
-    pub ok: bool,
-    pub next: usize,
-}
-
-// Puts the bytes into `out` from `at` on, if they fit there; else leaves it as it was.
-pub fn write_bytes(out: &mut [u8], at: usize, bytes: &[u8]) -> Written
+// Puts the bytes into `out` from `at` on and answers the place behind them; `None` where they don't fit, and `out` is as it was.
+#[tactic(auto, using(crate::proofs::Writing::wrote_none, crate::proofs::Writing::wrote_part))]
+pub fn write_bytes(out: &mut [u8], at: usize, bytes: &[u8]) -> Option<usize>
     ensures { Wrote out.old at bytes.now out.new result }
 {
-    if at > out.len() {
-        return Written {
-            ok: false,
-            next: at,
-        };
+    let end = at.checked_add(bytes.len())?;
+    // tested here: behind a `get_mut(at..end)?` a proof knows the length of `out` and not what it holds
+    if end > out.len() {
+        return None;
     }
-    if bytes.len() > out.len() - at {
-        return Written {
-            ok: false,
-            next: at,
-        };
-    }
-    let mut i = 0;
-    while i < bytes.len() {
-        out[at + i] = bytes[i];
-        i += 1;
-    }
-    Written {
-        ok: true,
-        next: at + i,
-    }
+    out[at..end].copy_from_slice(bytes);
+    Some(end)
 }
 
 fn digit(n: u64) -> u8
@@ -45,27 +25,27 @@ fn digit(n: u64) -> u8
 }
 
 // Puts the digits of n at the end of `text`, which holds any u64, last digit first, and answers where they begin.
-fn spell(n: u64, text: &mut [u8]) -> usize
-    requires { length text.old ≡ 20 }
+// By hand and not by `Display`: the edit spelled_by_hundreds is of this loop, and without a heap no contract says what `write!` wrote.
+fn spell(n: u64, text: &mut [u8; 20]) -> usize
     ensures { (result ≤ 20) × (drop result text.new ≡ text_of n) }
 {
-    let mut from = 20;
+    let mut from = text.len();
     let mut rest = n;
-    while rest > 9 {
+    loop {
         from -= 1;
         text[from] = digit(rest % 10);
         rest /= 10;
+        if rest == 0 {
+            return from;
+        }
     }
-    from -= 1;
-    text[from] = digit(rest);
-    from
 }
 
-// Puts the digits of n into `out` from `at` on, if they fit there; else leaves it as it was.
-pub fn write_decimal(out: &mut [u8], at: usize, n: u64) -> Written
+// Puts the digits of n into `out` from `at` on, as `write_bytes` puts bytes.
+pub fn write_decimal(out: &mut [u8], at: usize, n: u64) -> Option<usize>
     ensures { Wrote out.old at (text_of n) out.new result }
 {
-    let mut text = [0u8; 20];
+    let mut text = [0; 20];
     let from = spell(n, &mut text);
     write_bytes(out, at, &text[from..])
 }

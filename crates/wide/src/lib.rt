@@ -4,23 +4,30 @@
 ghost use Rattle.std.specs.Prelude.{◌≡◌, ◌*◌, min};
 ghost use Rattle.defs.specs.Starts.Letters.{hi};
 
-// The high half of the product of two u16.
-pub fn wmul16_hi(a: u16, b: u16) -> u16
-    ensures { result ≡ hi 16 a b }
-{
-    (((a as u32) * (b as u32)) >> 16) as u16
+use values::Word;
+
+// A word whose products are worked out whole, so that their high half is at hand.
+pub trait WideMul: Word {
+    // The high half of the product of two words.
+    fn wmul_hi(self, other: Self) -> Self
+        ensures { Self.number result ≡ hi Self.bits (Self.number self) (Self.number other) };
 }
 
-// The high half of the product of two u32.
-pub fn wmul32_hi(a: u32, b: u32) -> u32
-    ensures { result ≡ hi 32 a b }
-{
-    (((a as u64) * (b as u64)) >> 32) as u32
+impl WideMul for u16 {
+    fn wmul_hi(self, other: u16) -> u16 {
+        (((self as u32) * (other as u32)) >> 16) as u16
+    }
 }
 
-// Twice x, or the largest u16 where that does not fit: the Rust's `saturating_mul(2)`.
+impl WideMul for u32 {
+    fn wmul_hi(self, other: u32) -> u32 {
+        (((self as u64) * (other as u64)) >> 32) as u32
+    }
+}
+
+// Twice x, or the largest u16 where that does not fit.
 pub fn saturating_double16(x: u16) -> u16
     ensures { result ≡ min (2 * x) 65535 }
 {
-    if x <= 32767 { 2 * x } else { 65535 }
+    x.saturating_mul(2)
 }

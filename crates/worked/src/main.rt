@@ -4,7 +4,7 @@
 
 mod say;
 
-use say::{answer, rebuilt, roots};
+use say::{answer, finished, rebuilt, refusal, roots};
 use std::io;
 
 // The batch over 0, 1, 4, 4294967295, under a budget.
@@ -13,8 +13,7 @@ fn batch_under(rt: &impl Print, budget: u64) -> io::Result<()> {
     let mut places = [9u16, 9, 9, 9];
     let a = batch::sqrt_batch(&values, &mut places, 0, 4, budget);
     println!(rt; "batch, budget {budget}")?;
-    println!(rt; "  done {}", a.done)?;
-    println!(rt; "  spent {}", a.spent)?;
+    finished(rt, a)?;
     roots(rt, &places)
 }
 
@@ -23,9 +22,8 @@ fn batch_part(rt: &impl Print, first: usize, count: usize) -> io::Result<()> {
     let values = [0u32, 1, 4, 4294967295];
     let mut places = [9u16, 9, 9, 9];
     let a = batch::sqrt_batch(&values, &mut places, first, count, 100);
-    println!(rt; "batch, refusal {}", a.refusal)?;
-    println!(rt; "  done {}", a.done)?;
-    println!(rt; "  spent {}", a.spent)?;
+    refusal(rt, a)?;
+    finished(rt, a)?;
     roots(rt, &places)
 }
 
@@ -34,14 +32,14 @@ fn batch_of_other_length(rt: &impl Print) -> io::Result<()> {
     let values = [0u32, 1, 4, 4294967295, 9];
     let mut places = [9u16, 9, 9, 9];
     let a = batch::sqrt_batch(&values, &mut places, 1, 2, 100);
-    println!(rt; "batch, refusal {}", a.refusal)?;
+    refusal(rt, a)?;
     roots(rt, &places)
 }
 
 fn main(rt: HostRuntime) -> io::Result<()> {
-    let s = root64::sqrt_rem(18446744073709551615);
+    let s = roots::sqrt_rem(18446744073709551615u64);
     answer(&rt, "square u64 max", s.root as u64, s.rest)?;
-    let c = root64::cbrt_rem(18446744073709551615);
+    let c = roots::cbrt_rem(18446744073709551615u64);
     answer(&rt, "cube u64 max", c.root as u64, c.rest)?;
     batch_under(&rt, 0)?;
     batch_under(&rt, 3)?;
@@ -50,7 +48,7 @@ fn main(rt: HostRuntime) -> io::Result<()> {
     batch_part(&rt, 2, 3)?;
     batch_part(&rt, 4, 0)?;
     batch_of_other_length(&rt)?;
-    rebuilt(&rt, rebuild::cube32(1625, 3951670))?;
-    rebuilt(&rt, rebuild::cube32(1625, 3951671))?;
-    rebuilt(&rt, rebuild::cube32(1625, 7926751))
+    rebuilt(&rt, rebuild::cube::<u32>(1625, 3951670))?;
+    rebuilt(&rt, rebuild::cube::<u32>(1625, 3951671))?;
+    rebuilt(&rt, rebuild::cube::<u32>(1625, 7926751))
 }

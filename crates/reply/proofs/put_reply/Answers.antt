@@ -1,12 +1,12 @@
 -- `reply::put_reply` meets its contract: the seven lines, or `bad input`. Assumes nothing.
-use Rattle.std.proofs.Common.{sym}
-use borrow.Author.Tests.{not-true, not-false}
-use Rattle.reply.proofs.Putting.{puts, puts_same}
-use Rattle.reply.proofs.Replies.{answer_good, answer_bad}
+use Rattle.reply.specs.Reply.{answer_to}
+use Rattle.reply.proofs.Putting.{puts}
 use Rattle.reply.proofs.put_reply.Goals as goal
 
-pub returns-then-not-request : goal.returns-then-not-request
-returns-then-not-request c = puts_same (sym (answer_bad _ (not-true _ c.if-not-request.true))) (puts c.write_bytes.ensures)
+pub returns-in-Some : goal.returns-in-Some
+unfolding answer_to
+returns-in-Some c = rw c.in-Some.is c.put_answer.ensures
 
-pub returns : goal.returns
-returns c = puts_same (sym (answer_good _ (not-false _ c.if-not-request.false))) c.put_answer.ensures
+pub returns-in-None : goal.returns-in-None
+unfolding answer_to
+returns-in-None c = rw c.in-None.is (puts c.write_bytes.ensures)

@@ -1,10 +1,6 @@
 -- The first i values are done and paid for, and the others are as they were.
-use Rattle.std.proofs.Common.{◌-◌, length}
 use Rattle.batch.proofs.Going.{Going}
 use Rattle.batch.proofs.run.run_part.Given as goal
 
 abbrev pub invariant-loop-done : goal.invariant-loop-done
 invariant-loop-done l = Going l.values l.initial.roots l.budget l.roots l.done l.spent
-
-abbrev pub decreases-loop-done : goal.decreases-loop-done
-decreases-loop-done l = length l.values - l.done

@@ -5,4 +5,4 @@ use Rattle.reply.proofs.lines.put_asked.Goals as goal
 
 pub returns : goal.returns
 unfolding asked_lines
-returns c = puts_on c.put_number-width.ensures (puts_on c.put_kind-kind.ensures c.put_number.ensures)
+returns c = puts_on c.put_number.ensures c.in_ok-width.was (puts_on c.put_kind.ensures c.in_ok-kind.was c.put_number-2.ensures)

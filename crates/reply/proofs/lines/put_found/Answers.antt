@@ -6,5 +6,5 @@ use Rattle.reply.proofs.lines.put_found.Goals as goal
 pub returns : goal.returns
 unfolding found_lines
 returns c =
-    puts_on c.put_number-root.ensures
-    (puts_on c.put_number-rest.ensures (puts_on c.put_number-start.ensures c.put_number.ensures))
+    puts_on c.put_number.ensures c.in_ok-root.was
+    (puts_on c.put_number-2.ensures c.in_ok-rest.was (puts_on c.put_number-3.ensures c.in_ok-start.was c.put_number-4.ensures))

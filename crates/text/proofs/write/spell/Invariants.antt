@@ -1,4 +1,4 @@
--- The digits so far are the last of n.
+-- The digits so far are the last of n, and those of `rest` are left.
 use Rattle.text.proofs.Spelling.{Spelled}
 use Rattle.text.proofs.write.spell.Given as goal
 

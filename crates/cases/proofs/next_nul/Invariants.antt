@@ -1,9 +1,0 @@
--- The place is not before the first.
-use Rattle.std.proofs.Common.{◌-◌, ◌≤◌, length}
-use Rattle.cases.proofs.next_nul.Given as goal
-
-abbrev pub invariant-loop-i : goal.invariant-loop-i
-invariant-loop-i l = l.from ≤ l.i
-
-abbrev pub decreases-loop-i : goal.decreases-loop-i
-decreases-loop-i l = length l.list - l.i

@@ -1,9 +1,0 @@
--- `root16::alone::sqrt` meets its contract: the law of shifts. Assumes nothing.
-use Rattle.std.proofs.Common.{arith}
-use Rattle.defs.specs.Kinds.{square, u16}
-use Rattle.laws.proofs.Full.{root_back_of}
-use Rattle.root16.proofs.alone.sqrt.Goals as goal
-
-pub returns : goal.returns
-returns c =
-    root_back_of square u16 tt (omega (arith, c.if-n-eq0.false)) c.ranges.n.fits c.shift_sqrt16-shift.ensures c.fix_sqrt_error16.ensures.root_rem.is_root (omega arith)

@@ -1,0 +1,32 @@
+// The fix-up: from a start at or below the root to the root by ones, with the remainder and the gap to the next power carried along.
+ghost use Rattle.std.specs.Prelude.{◌≤◌};
+ghost use Rattle.defs.specs.Kinds.{pow};
+ghost use Rattle.defs.specs.Parts.{Fixed};
+
+use values::{Power, Value, Word};
+
+#[derive(Clone, Copy)]
+pub(crate) struct FixUp<N, R> {
+    pub(crate) root: R,
+    pub(crate) rest: N,
+    pub(crate) steps: R,
+}
+
+pub(crate) fn fix_error<K: Power, N: Value>(n: N, start: N::Root) -> FixUp<N, N::Root>
+    requires { pow K.kind (N.Root.number start) ≤ N.number n }
+    ensures { Fixed K.kind (N.number n) (N.Root.number start) (N.Root.number result.root) (N.number result.rest) (N.Root.number result.steps) }
+{
+    let mut root = start;
+    let mut rest = n.fitted() - K::raised(start);
+    let mut gap: N = K::gap(start);
+    while rest >= gap {
+        root += N::Root::of(1);
+        rest -= gap;
+        gap = K::widened(gap, root);
+    }
+    FixUp {
+        root,
+        rest,
+        steps: root - start,
+    }
+}
