@@ -2,7 +2,7 @@
 use Rattle.std.specs.Prelude.{◌≡◌, ℕ, Result}
 use Rattle.refusals.specs.declared.Refusal.{Refusal}
 use Rattle.refusals.specs.Refusal.{number_in, part_in}
-use Rattle.roots.specs.declared.full.RootRem.{RootRem}
+use Rattle.roots.specs.declared.answer.RootRem.{RootRem}
 
 -- the four numbers of a full call's answer
 pub record Same (a : RootRem ℕ ℕ) (root rest start steps : ℕ) : Type 0 where

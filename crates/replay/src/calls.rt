@@ -1,8 +1,7 @@
 // The calls that the list is held against, over the value's type.
-use crate::list::Kind;
 use refusals::Refusal;
 use roots::{RootRem, Start};
-use values::{Cube, Square, Word};
+use values::{Cube, Kind, Square, Word};
 
 // What the calls on a value answer: the full call, the root alone, whether the normalised call answers or refuses as it
 // should, and whether the value is rebuilt from its root and rest.

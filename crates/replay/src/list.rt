@@ -1,45 +1,6 @@
 // The list of the Rust's answers: runs of 32 bytes, lowest byte first (oracle/README.md).
-ghost use Rattle.std.specs.Prelude.{◌<◌};
-
 use bytes::Buf;
-use std::fmt;
-
-#[derive(Clone, Copy, Debug, PartialEq, Eq)]
-pub(crate) enum Kind {
-    Square,
-    Cube,
-}
-
-impl Kind {
-    pub(crate) fn degree(self) -> u32
-        ensures { result < 4 }
-    {
-        match self {
-            Kind::Square => 2,
-            Kind::Cube => 3,
-        }
-    }
-}
-
-// By the degree that the list has.
-impl From<u8> for Kind {
-    fn from(degree: u8) -> Kind {
-        if degree == 2 {
-            Kind::Square
-        } else {
-            Kind::Cube
-        }
-    }
-}
-
-impl fmt::Display for Kind {
-    fn fmt<W: fmt::Write>(&self, f: &mut fmt::Formatter<W>) -> fmt::Result {
-        f.write_str(match self {
-            Kind::Square => "square",
-            Kind::Cube => "cube",
-        })
-    }
-}
+use values::Kind;
 
 // `count` values from `value` on that share root, start and steps, with rests that rise by one.
 #[derive(Clone, Copy)]
@@ -54,6 +15,14 @@ pub(crate) struct Run {
     pub(crate) steps: u64,
 }
 
+fn kind_of_degree(degree: u8) -> Kind {
+    if degree == 2 {
+        Kind::Square
+    } else {
+        Kind::Cube
+    }
+}
+
 // The fields stand in the order of the bytes.
 impl From<[u8; 32]> for Run {
     fn from(bytes: [u8; 32]) -> Run {
@@ -64,7 +33,7 @@ impl From<[u8; 32]> for Run {
             root: rest.get_u32_le() as u64,
             start: rest.get_u32_le() as u64,
             count: rest.get_u16_le() as u64,
-            kind: Kind::from(rest.get_u8()),
+            kind: kind_of_degree(rest.get_u8()),
             width: rest.get_u8() as u64,
             steps: rest.get_u8() as u64,
         }

@@ -9,9 +9,10 @@ mod say;
 ghost use Rattle.std.specs.Prelude.{◌<◌};
 
 use calls::{Found, call};
-use list::{Kind, Run};
+use list::Run;
 use std::io;
 use std::io::Read;
+use values::Kind;
 
 // The answer for the i-th value of a run is the one that the list has.
 fn agrees(run: Run, i: u64, found: Found) -> bool {

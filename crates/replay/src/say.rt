@@ -1,7 +1,8 @@
 // What replay prints.
 use crate::calls::Found;
-use crate::list::{Kind, Run};
+use crate::list::Run;
 use std::io;
+use values::Kind;
 
 // The answers compared, by width and kind, and that none differs.
 pub(crate) fn counts(rt: &impl Print, tally: &[[u64; 2]; 4]) -> io::Result<()> {

@@ -15,7 +15,8 @@ use Rattle.laws.proofs.Shift.{raised_top}
 use Rattle.starts.proofs.Calls.{full_counts}
 use Rattle.text.specs.Decimal.{text_of}
 use Rattle.std.specs.Prelude.{Option, Some, None}
-use Rattle.text.specs.Request.{kind_of, request_of}
+use Rattle.values.specs.Kinds.{kind_of}
+use Rattle.text.specs.Request.{request_of}
 use Rattle.text.specs.declared.request.Request.{Request}
 use Rattle.text.proofs.Texts.{text_length_32}
 use Rattle.text.proofs.Asking.{asks}

@@ -3,7 +3,8 @@ use Rattle.std.specs.Prelude.{◌≡◌, List, ◌++◌, ℕ, length, take, Opti
 use Rattle.defs.specs.Kinds.{Kind, Width, u32}
 use Rattle.defs.specs.Roots.{root_of, rest_of}
 use Rattle.defs.specs.Cells.{full_start, full_steps}
-use Rattle.text.specs.Request.{kind_of, request_of}
+use Rattle.values.specs.Kinds.{kind_of}
+use Rattle.text.specs.Request.{request_of}
 use Rattle.text.specs.Writing.{Wrote}
 use Rattle.text.specs.declared.request.Request.{Request}
 use Rattle.reply.specs.Lines.{bad_input, asked_lines, found_lines}

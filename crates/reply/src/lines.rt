@@ -3,13 +3,14 @@
 
 ghost use Rattle.defs.specs.Kinds.{u32};
 ghost use Rattle.defs.specs.Answers.{Full};
-ghost use Rattle.text.specs.Request.{kind_of};
+ghost use Rattle.values.specs.Kinds.{kind_of};
 ghost use Rattle.reply.specs.Lines.{line, number_line, kind_name, kind_text, asked_lines, found_lines};
 ghost use Rattle.reply.specs.Putting.{Puts};
 ghost use Rattle.reply.specs.Reply.{answer_of};
 
 use roots::{RootRem, cbrt_rem, sqrt_rem};
-use text::{Kind, Request, write_bytes, write_decimal};
+use text::{Request, write_bytes, write_decimal};
+use values::Kind;
 
 fn put_text(out: &mut [u8], at: usize, name: &[u8], text: &[u8]) -> Option<usize>
     ensures { Puts out.old at (line name.now text.now) out.new result }

@@ -4,7 +4,7 @@ use Rattle.defs.specs.Kinds.{Kind, Width}
 use Rattle.defs.specs.Answers.{Full, Normalised}
 use Rattle.refusals.specs.declared.Refusal.{Refusal}
 use Rattle.refusals.specs.Refusal.{number_in, part_in}
-use Rattle.roots.specs.declared.full.RootRem.{RootRem}
+use Rattle.roots.specs.declared.answer.RootRem.{RootRem}
 
 module _ {N R : Type 0} (k : Kind) (w : Width) (number : N → ℕ) (root_number : R → ℕ) (n : N) where
   -- a full call's answer

@@ -4,19 +4,11 @@ ghost use Rattle.defs.specs.Kinds.{square, cube};
 ghost use Rattle.defs.specs.Cells.{bound};
 ghost use Rattle.roots.specs.Answers.{FullAnswer};
 
+use crate::answer::RootRem;
 use crate::fix::fix_error;
 use crate::shift::back_of;
 use crate::start::Start;
 use values::{Cube, Power, Square, Value, Word};
-
-// What a full call answers: root and rest, and where its fix-up started and how many steps it took.
-#[derive(Clone, Copy, Debug, PartialEq, Eq)]
-pub struct RootRem<N, R> {
-    pub root: R,
-    pub rest: N,
-    pub start: R,
-    pub steps: R,
-}
 
 // The top bits are tested first, and the other values have a function with one caller, so that the compiler inlines it.
 pub(crate) fn root_rem<K: Power, N: Start<K>>(n: N) -> RootRem<N, N::Root>
@@ -24,14 +16,7 @@ pub(crate) fn root_rem<K: Power, N: Start<K>>(n: N) -> RootRem<N, N::Root>
 {
     let n = n.fitted();
     if n >= N::bound() {
-        let start = n.start();
-        let fixed = fix_error::<K, N>(n, start);
-        return RootRem {
-            root: fixed.root,
-            rest: fixed.rest,
-            start,
-            steps: fixed.steps,
-        };
+        return fix_error::<K, N>(n, n.start());
     }
     if n == N::of(0) {
         let zero = N::Root::of(0);
@@ -53,14 +38,12 @@ fn shifted_root_rem<K: Power, N: Start<K>>(n: N) -> RootRem<N, N::Root>
 {
     let back = back_of::<K, N>(n);
     let top = n.fitted() << (K::DEGREE * back);
-    let start = top.start();
-    let fixed = fix_error::<K, N>(top, start);
+    let fixed = fix_error::<K, N>(top, top.start());
     let root = fixed.root >> back;
     RootRem {
         root,
         rest: n - K::raised(root),
-        start,
-        steps: fixed.steps,
+        ..fixed
     }
 }
 

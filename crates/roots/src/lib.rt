@@ -2,6 +2,7 @@
 #![tactic(auto)]
 
 mod alone;
+mod answer;
 mod fix;
 mod full;
 mod normalized;
@@ -9,6 +10,7 @@ mod shift;
 mod start;
 
 pub use alone::{cbrt, sqrt};
-pub use full::{RootRem, cbrt_rem, sqrt_rem};
+pub use answer::RootRem;
+pub use full::{cbrt_rem, sqrt_rem};
 pub use normalized::{normalized_cbrt_rem, normalized_sqrt_rem};
 pub use start::Start;

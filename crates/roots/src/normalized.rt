@@ -2,8 +2,8 @@
 ghost use Rattle.defs.specs.Kinds.{square, cube};
 ghost use Rattle.roots.specs.Answers.{NormalisedResult};
 
+use crate::answer::RootRem;
 use crate::fix::fix_error;
-use crate::full::RootRem;
 use crate::start::Start;
 use refusals::Refusal;
 use values::{Cube, Power, Square, Value, Word};
@@ -15,14 +15,7 @@ fn normalized_root_rem<K: Power, N: Start<K>>(n: N) -> Result<RootRem<N, N::Root
     if n < N::bound() {
         return Err(Refusal::NotNormalised);
     }
-    let start = n.start();
-    let fixed = fix_error::<K, N>(n, start);
-    Ok(RootRem {
-        root: fixed.root,
-        rest: fixed.rest,
-        start,
-        steps: fixed.steps,
-    })
+    Ok(fix_error::<K, N>(n, n.start()))
 }
 
 pub fn normalized_sqrt_rem<N: Start<Square>>(n: N) -> Result<RootRem<N, N::Root>, Refusal>

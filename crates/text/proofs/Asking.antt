@@ -12,8 +12,9 @@ use Rattle.std.proofs.lemmas.Option.{same_Some}
 use Rattle.std.proofs.lemmas.Slice.Eq.{starts_is, ends_is}
 use Rattle.defs.specs.Kinds.{Kind, square, cube}
 use Rattle.text.specs.Decimal.{text_of}
-use Rattle.text.specs.Request.{word_of, newline, name_of, kind_of, number_of, Asks, good, asked_of, line_of, request_of}
-use Rattle.text.specs.declared.request.Kind.TheVariants.{Square}
+use Rattle.values.specs.Kinds.{name_of, kind_of}
+use Rattle.text.specs.Request.{word_of, newline, number_of, Asks, good, asked_of, line_of, request_of}
+use Rattle.values.specs.declared.kind.Kind.TheVariants.{Square}
 use Rattle.text.specs.declared.request.Request.{Request}
 use Rattle.text.proofs.Reading.{accepts, accepted, reads_back}
 use Rattle.text.proofs.Texts.{text_length_32}

@@ -12,7 +12,7 @@ use Rattle.std.proofs.lemmas.Bool.{false_from_ne_true}
 use Rattle.std.proofs.lemmas.Bool.Decides.{Decides-eqb}
 use Rattle.std.proofs.lemmas.Slice.Eq.{starts_is, ends_is}
 use Rattle.text.specs.Request.{newline, number_of, good, line_of, asked_of}
-use Rattle.text.specs.declared.request.Kind.{Kind as Named}
+use Rattle.values.specs.declared.kind.Kind.{Kind as Named}
 
 module _ (word : List ℕ) (k : Named) where
   -- what stands behind the word is the line

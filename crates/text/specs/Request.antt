@@ -4,24 +4,14 @@ use Rattle.std.specs.List.{starts_with, ends_with}
 use Rattle.std.specs.Option.{option_or, option_map}
 use Rattle.defs.specs.Kinds.{Kind, square, cube}
 use Rattle.text.specs.Reading.{Reads, read_of}
-use Rattle.text.specs.declared.request.Kind.{Kind as Named}
-use Rattle.text.specs.declared.request.Kind.TheVariants.{Square, Cube}
+use Rattle.values.specs.declared.kind.Kind.{Kind as Named}
+use Rattle.values.specs.declared.kind.Kind.TheVariants.{Square, Cube}
 use Rattle.text.specs.declared.request.Request.{Request}
 
 -- `square ` and `cube `, each with its space
 abbrev pub word_of : Kind → List ℕ
 word_of square = 115 ∷ 113 ∷ 117 ∷ 97 ∷ 114 ∷ 101 ∷ 32 ∷ []
 word_of cube = 99 ∷ 117 ∷ 98 ∷ 101 ∷ 32 ∷ []
-
--- the kind as the code names it
-abbrev pub name_of : Kind → Named
-name_of square = Square
-name_of cube = Cube
-
--- the kind that the code's name means
-abbrev pub kind_of : Named → Kind
-kind_of Square = square
-kind_of Cube = cube
 
 -- the number of a request: 1 to 10 digits that make at most 4294967295
 abbrev pub Number : List ℕ → ℕ → Type 0

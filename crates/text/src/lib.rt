@@ -6,5 +6,5 @@ mod request;
 mod write;
 
 pub use read::read_decimal;
-pub use request::{Kind, Request, request_of, starts_with};
+pub use request::{Request, request_of, starts_with};
 pub use write::{write_bytes, write_decimal};

@@ -4,13 +4,7 @@ ghost use Rattle.std.specs.List.{starts_with};
 ghost use Rattle.text.specs.Request.{asked_of, request_of};
 
 use crate::read::read_decimal;
-
-// Which root is asked for.
-#[derive(Clone, Copy, PartialEq, Eq, Debug)]
-pub enum Kind {
-    Square,
-    Cube,
-}
+use values::Kind;
 
 // What is asked: the root of one kind of one value.
 #[derive(Clone, Copy, PartialEq, Eq, Debug)]

@@ -10,4 +10,4 @@ returns g c =
     let topped : bound g.K.Power.kind g.N.Value.width ≤ g.N.Word.number c.args.n =
     rw (← c.bound.ensures, ← c.fitted-n.ensures.same) (not_below (g.met.N.Word.order_law _ _) (sym c.lt.ensures ∙ c.if-lt.false)) in
     answers g.K.Power.kind g.N.Value.width topped (rw g.met.N.Value.bits_law at c.fitted-n.ensures.fits)
-    (rw c.fitted-n.ensures.same at c.start-start.ensures) (rw c.fitted-n.ensures.same at c.fix_error-fixed.ensures)
+    (rw (c.fitted-n.ensures.same, ← c.fix_error.ensures.start) at c.start.ensures) (rw (c.fitted-n.ensures.same, ← c.fix_error.ensures.start) at c.fix_error.ensures.fixed)
