@@ -41,7 +41,7 @@ pub record NothingDone (before : List ℕ) (done spent : ℕ) (after : List ℕ)
 abbrev pub part : ℕ → ℕ → List ℕ → List ℕ
 part first count values = take count (drop first values)
 
--- the refusal by the two numbers and the lengths of the two slices, in the order 2, 3, 4; else 0
+-- the refusal by the two numbers and the lengths of the two slices, in the order 2, 3, 4; else 0. By tests of numbers, as a wrong order is tried in this text
 unfoldable pub refusal_of : ℕ → ℕ → ℕ → ℕ → ℕ
 refusal_of first count values roots =
     cond (ltb values first) first_beyond (cond (ltb (values - first) count) count_beyond (cond (eqb values roots) no_refusal lengths_differ))

@@ -1,4 +1,4 @@
-// Roots alone.
+// Roots alone. In C each width and kind is a function of its own name, here and in the files beside.
 ghost use Rattle.defs.specs.Kinds.{square, cube};
 ghost use Rattle.defs.specs.Roots.{IsRoot};
 

@@ -20,14 +20,14 @@ pub struct NormalizedRootRem16 {
 impl From<Result<RootRem<u16, u8>, Refusal>> for NormalizedRootRem16 {
     ghost from_gives = { λ a c. Numbered a c.refusal c.root c.rest c.start c.steps };
 
-    fn from(a: Result<RootRem<u16, u8>, Refusal>) -> NormalizedRootRem16 {
-        match a {
-            Ok(a) => NormalizedRootRem16 {
+    fn from(answered: Result<RootRem<u16, u8>, Refusal>) -> NormalizedRootRem16 {
+        match answered {
+            Ok(answer) => NormalizedRootRem16 {
                 refusal: 0,
-                root: a.root,
-                rest: a.rest,
-                start: a.start,
-                steps: a.steps,
+                root: answer.root,
+                rest: answer.rest,
+                start: answer.start,
+                steps: answer.steps,
             },
             Err(refusal) => NormalizedRootRem16 {
                 refusal: refusal.number(),
@@ -50,14 +50,14 @@ pub struct NormalizedRootRem32 {
 impl From<Result<RootRem<u32, u16>, Refusal>> for NormalizedRootRem32 {
     ghost from_gives = { λ a c. Numbered a c.refusal c.root c.rest c.start c.steps };
 
-    fn from(a: Result<RootRem<u32, u16>, Refusal>) -> NormalizedRootRem32 {
-        match a {
-            Ok(a) => NormalizedRootRem32 {
+    fn from(answered: Result<RootRem<u32, u16>, Refusal>) -> NormalizedRootRem32 {
+        match answered {
+            Ok(answer) => NormalizedRootRem32 {
                 refusal: 0,
-                root: a.root,
-                rest: a.rest,
-                start: a.start,
-                steps: a.steps,
+                root: answer.root,
+                rest: answer.rest,
+                start: answer.start,
+                steps: answer.steps,
             },
             Err(refusal) => NormalizedRootRem32 {
                 refusal: refusal.number(),
@@ -80,14 +80,14 @@ pub struct NormalizedRootRem64 {
 impl From<Result<RootRem<u64, u32>, Refusal>> for NormalizedRootRem64 {
     ghost from_gives = { λ a c. Numbered a c.refusal c.root c.rest c.start c.steps };
 
-    fn from(a: Result<RootRem<u64, u32>, Refusal>) -> NormalizedRootRem64 {
-        match a {
-            Ok(a) => NormalizedRootRem64 {
+    fn from(answered: Result<RootRem<u64, u32>, Refusal>) -> NormalizedRootRem64 {
+        match answered {
+            Ok(answer) => NormalizedRootRem64 {
                 refusal: 0,
-                root: a.root,
-                rest: a.rest,
-                start: a.start,
-                steps: a.steps,
+                root: answer.root,
+                rest: answer.rest,
+                start: answer.start,
+                steps: answer.steps,
             },
             Err(refusal) => NormalizedRootRem64 {
                 refusal: refusal.number(),

@@ -14,6 +14,7 @@ pub fn read_full<R: Read>(from: &mut R, buf: &mut [u8]) -> (usize, io::Result<()
     ensures stops { OnOk result.1 (result.0 < length buf.new → IsAtEnd (R.remaining from.new)) }
 {
     let mut done = 0;
+    // A read says itself how far it came, so no iterator has the next place.
     while done < buf.len() {
         match from.read(&mut buf[done..]) {
             Ok(0) => return (done, Ok(())),

@@ -1,5 +1,5 @@
 -- The fix-up, one fact over the kind's power and the width: it begins, goes on, ends at the root, and nothing in it overflows.
--- Each width and kind cites it. Assumes nothing.
+-- The code, which is over width and kind too, cites it once. Assumes nothing.
 use mathlib.Core.Path.{◌≡◌, refl}
 use mathlib.Core.Logic.{◌⊎◌, inl, inr}
 use Prim.Native.Nat.{ℕ, ◌+◌, ◌*◌, ◌-◌, ◌^◌, ◌≤◌, ◌<◌}

@@ -22,7 +22,7 @@ own_answer k w v {n} b h s f =
     let bill = billed k w s f in
     full_raised k w (not_zero (top_positive k w v b)) f.root_rem (rw same bill.0) (rw same bill.1)
 
--- at 8 bits each value does, by the search from 0
+-- the same at every width: at 8 bits each value has its top bits
 pub own_full : (k : Kind) (w : Width) {n start root rest steps : ℕ} → bound k w ≤ n → n < 2 ^ bits_of w → Starts k w n start →
     Fixed k n start root rest steps → Full k w n root rest start steps
 own_full k u8 b h s f = searched_8 k s f

@@ -16,14 +16,14 @@ refusal_at n =
     get_or (None ∷ Some NotNormalised ∷ Some FirstBeyond ∷ Some CountBeyond ∷ Some LengthsDiffer ∷ Some RestBeyond ∷ Some ValueBeyond ∷ []) n None
 
 -- the refusal of its number is itself
-comes_back : (a : Refusal) → refusal_at (number_of a) ≡ Some a
+refusal_is : (a : Refusal) → refusal_at (number_of a) ≡ Some a
 unfolding refusal_at
-comes_back NotNormalised = refl
-comes_back FirstBeyond = refl
-comes_back CountBeyond = refl
-comes_back LengthsDiffer = refl
-comes_back RestBeyond = refl
-comes_back ValueBeyond = refl
+refusal_is NotNormalised = refl
+refusal_is FirstBeyond = refl
+refusal_is CountBeyond = refl
+refusal_is LengthsDiffer = refl
+refusal_is RestBeyond = refl
+refusal_is ValueBeyond = refl
 
 -- the refusal of the number of none is none
 none_at : refusal_at no_refusal ≡ None
@@ -34,14 +34,14 @@ none_at = refl
 pub one_result : {T : Type 0} (default : T) (a b : Result T Refusal) → number_in a ≡ number_in b → result_unwrap_or a default ≡ result_unwrap_or b default →
     a ≡ b
 one_result default (Ok x) (Ok y) number value = ap Ok value
-one_result default (Ok x) (Err b) number value = absurd (cc (none_at, comes_back b, number))
-one_result default (Err a) (Ok y) number value = absurd (cc (none_at, comes_back a, number))
-one_result default (Err a) (Err b) number value = cc (comes_back a, comes_back b, number)
+one_result default (Ok x) (Err b) number value = absurd (cc (none_at, refusal_is b, number))
+one_result default (Err a) (Ok y) number value = absurd (cc (none_at, refusal_is a, number))
+one_result default (Err a) (Err b) number value = cc (refusal_is a, refusal_is b, number)
 
--- nor, of two numbers, one that has the same number of a refusal and the same part
 part_is : (a : Result ℕ Refusal) → part_in (λ value. value) a ≡ result_unwrap_or a 0
 part_is (Ok value) = refl
 part_is (Err refusal) = refl
 
+-- nor does a second result of a number have the same number of a refusal and the same part
 pub one_value : (a b : Result ℕ Refusal) → number_in a ≡ number_in b → part_in (λ value. value) a ≡ part_in (λ value. value) b → a ≡ b
 one_value a b number part = one_result 0 a b number (cc (part_is a, part_is b, part))

@@ -1,4 +1,5 @@
 // The calls that the list is held against, over the value's type.
+use crate::list::Width;
 use refusals::Refusal;
 use roots::{RootRem, Start};
 use values::{Cube, Kind, Square, Word};
@@ -13,17 +14,16 @@ pub(crate) struct Found {
     pub(crate) rebuilt: bool,
 }
 
-// What they answer at a width, if a type has it.
-pub(crate) fn call(kind: Kind, width: u64, value: u64) -> Option<Found> {
+pub(crate) fn call(kind: Kind, width: Width, value: u64) -> Found {
     match width {
-        8 => Some(all_calls::<u8>(kind, value)),
-        16 => Some(all_calls::<u16>(kind, value)),
-        32 => Some(all_calls::<u32>(kind, value)),
-        64 => Some(all_calls::<u64>(kind, value)),
-        _ => None,
+        Width::U8 => all_calls::<u8>(kind, value),
+        Width::U16 => all_calls::<u16>(kind, value),
+        Width::U32 => all_calls::<u32>(kind, value),
+        Width::U64 => all_calls::<u64>(kind, value),
     }
 }
 
+// The calls of the two kinds have names of their own: a function over the kind would have to be given each.
 fn all_calls<N: Start<Square> + Start<Cube>>(kind: Kind, value: u64) -> Found {
     let n = N::narrowed(value & N::top());
     match kind {
@@ -48,6 +48,7 @@ fn all_calls<N: Start<Square> + Start<Cube>>(kind: Kind, value: u64) -> Found {
     }
 }
 
+// Each word at 64 bits.
 fn wide<N: Start<Square>>(a: RootRem<N, N::Root>) -> RootRem<u64, u64> {
     RootRem {
         root: a.root.wide(),

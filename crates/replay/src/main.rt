@@ -6,10 +6,8 @@ mod calls;
 mod list;
 mod say;
 
-ghost use Rattle.std.specs.Prelude.{◌<◌};
-
 use calls::{Found, call};
-use list::Run;
+use list::{Run, Width};
 use std::io;
 use std::io::Read;
 use values::Kind;
@@ -32,41 +30,27 @@ struct Difference {
     found: Found,
 }
 
-// How many values of a run were compared, or the first that differs. Of a width that no type has there is none.
-fn replayed(run: Run) -> Result<u64, Difference> {
+// Compares every value of a run, up to the first that differs.
+fn replay(run: Run, width: Width) -> Result<(), Difference> {
     for i in 0..run.count {
-        let Some(found) = call(run.kind, run.width, run.value.wrapping_add(i)) else {
-            return Ok(0);
-        };
+        let found = call(run.kind, width, run.value.wrapping_add(i));
         if !agrees(run, i, found) {
             return Err(Difference { at: i, found });
         }
     }
-    Ok(run.count)
+    Ok(())
 }
 
 // How many answers were compared, by width and kind.
 type Tally = [[u64; 2]; 4];
 
-// The place of a width's counts.
-fn row_of(width: u64) -> usize
-    ensures { result < 4 }
-{
-    match width {
-        8 => 0,
-        16 => 1,
-        32 => 2,
-        _ => 3,
-    }
-}
-
-fn count(tally: &mut Tally, run: Run, more: u64) {
+fn count(tally: &mut Tally, run: Run, width: Width) {
     let column = match run.kind {
         Kind::Square => 0,
         Kind::Cube => 1,
     };
-    let row = &mut tally[row_of(run.width)];
-    row[column] = row[column].wrapping_add(more);
+    let row = &mut tally[width.row()];
+    row[column] = row[column].wrapping_add(run.count);
 }
 
 // The list's next run, if there is one.
@@ -86,10 +70,13 @@ fn main(rt: HostRuntime) -> io::Result<()> {
         let Some(run) = next_run(&mut list) else {
             break;
         };
-        match replayed(run) {
-            Ok(compared) => count(&mut tally, run, compared),
-            Err(difference) => return say::difference(&rt, run, difference.at, difference.found),
+        let Some(width) = run.width else {
+            continue;
+        };
+        if let Err(difference) = replay(run, width) {
+            return say::difference(&rt, run, width, difference.at, difference.found);
         }
+        count(&mut tally, run, width);
     }
     say::counts(&rt, &tally)
 }

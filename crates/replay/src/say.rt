@@ -1,14 +1,14 @@
 // What replay prints.
 use crate::calls::Found;
-use crate::list::Run;
+use crate::list::{Run, Width};
 use std::io;
 use values::Kind;
 
 // The answers compared, by width and kind, and that none differs.
 pub(crate) fn counts(rt: &impl Print, tally: &[[u64; 2]; 4]) -> io::Result<()> {
-    for (width, [squares, cubes]) in [8, 16, 32, 64].iter().zip(tally.iter()) {
-        println!(rt; "u{width} {}: {squares} compared", Kind::Square)?;
-        println!(rt; "u{width} {}: {cubes} compared", Kind::Cube)?;
+    for (width, [squares, cubes]) in Width::ALL.iter().zip(tally.iter()) {
+        println!(rt; "{width} {}: {squares} compared", Kind::Square)?;
+        println!(rt; "{width} {}: {cubes} compared", Kind::Cube)?;
     }
     println!(rt; "0 differ")
 }
@@ -18,10 +18,16 @@ fn said(agrees: bool) -> &'static str {
 }
 
 // The first difference: the i-th value of a run, what the list has of it, and what was found.
-pub(crate) fn difference(rt: &impl Print, run: Run, i: u64, f: Found) -> io::Result<()> {
+pub(crate) fn difference(
+    rt: &impl Print,
+    run: Run,
+    width: Width,
+    i: u64,
+    f: Found,
+) -> io::Result<()> {
     let value = run.value.wrapping_add(i);
     let rest = run.rest.wrapping_add(i);
-    println!(rt; "differs: u{} {} value={value}", run.width, run.kind)?;
+    println!(rt; "differs: {width} {} value={value}", run.kind)?;
     println!(rt;
         "list: root={} rest={rest} start={} steps={}",
         run.root, run.start, run.steps

@@ -1,4 +1,5 @@
-// The lines of an answer, one after the other, into a slice that has room for them. Each answers the place behind its text.
+// The lines of an answer, one after the other, into a slice that has room for them. Each answers the place behind its text,
+// and takes the slice and the place as `write_bytes` does: one value of both would hide what a promise says of each.
 #![tactic(auto, using(crate::proofs::Putting::puts, crate::proofs::Putting::puts_on, crate::proofs::Putting::puts_stop), unfolding(crate::specs::Lines::line, crate::specs::Lines::asked_lines, crate::specs::Lines::found_lines))]
 
 ghost use Rattle.defs.specs.Kinds.{u32};

@@ -22,7 +22,7 @@ pub fn sqrt<N: Start<Square>>(n: N) -> N::Root
     shifted_root::<Square, N>(n)
 }
 
-// Top bits first, as in the full call: for squares the test costs more time than it saves, for cubes less.
+// Not one function with `sqrt` over the power: top bits first, as in the full call. For squares the test costs more time than it saves, for cubes less.
 pub fn cbrt<N: Start<Cube>>(n: N) -> N::Root
     ensures { IsRoot cube (N.number n) (N.Root.number result) }
 {
@@ -42,9 +42,10 @@ fn own_root<K: Power, N: Start<K>>(n: N) -> N::Root
     fix_error::<K, N>(n, n.start()).root
 }
 
+// It asks what `back_of` asks.
 fn shifted_root<K: Power, N: Start<K>>(n: N) -> N::Root
     requires some { 0 < N.number n }
-    requires wide { 0 < bound K.kind N.width }
+    requires more_than_a_byte { 0 < bound K.kind N.width }
     ensures { IsRoot K.kind (N.number n) (N.Root.number result) }
 {
     let back = back_of::<K, N>(n);

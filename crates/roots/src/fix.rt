@@ -14,6 +14,7 @@ pub(crate) fn fix_error<K: Power, N: Value>(n: N, start: N::Root) -> RootRem<N, 
     let mut root = start;
     let mut rest = n.fitted() - K::raised(start);
     let mut gap: N = K::gap(start);
+    // It ends by the remainder and counts no index, so an iterator would be no plainer.
     while rest >= gap {
         root += N::Root::of(1);
         rest -= gap;

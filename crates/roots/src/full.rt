@@ -11,7 +11,7 @@ use crate::start::Start;
 use values::{Cube, Power, Square, Value, Word};
 
 // The top bits are tested first, and the other values have a function with one caller, so that the compiler inlines it.
-pub(crate) fn root_rem<K: Power, N: Start<K>>(n: N) -> RootRem<N, N::Root>
+fn root_rem<K: Power, N: Start<K>>(n: N) -> RootRem<N, N::Root>
     ensures { FullAnswer K.kind N.width N.number N.Root.number n result }
 {
     let n = n.fitted();
@@ -30,10 +30,10 @@ pub(crate) fn root_rem<K: Power, N: Start<K>>(n: N) -> RootRem<N, N::Root>
     shifted_root_rem::<K, N>(n)
 }
 
-// The normalised root is shifted back, and the rest worked out anew: shifted back, it would be another number.
+// The normalised root is shifted back, and the rest worked out anew: shifted back, it would be another number. It asks what `back_of` asks.
 fn shifted_root_rem<K: Power, N: Start<K>>(n: N) -> RootRem<N, N::Root>
     requires some { 0 < N.number n }
-    requires wide { 0 < bound K.kind N.width }
+    requires more_than_a_byte { 0 < bound K.kind N.width }
     ensures { FullAnswer K.kind N.width N.number N.Root.number n result }
 {
     let back = back_of::<K, N>(n);

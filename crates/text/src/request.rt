@@ -13,7 +13,7 @@ pub struct Request {
     pub value: u32,
 }
 
-// Whether the first bytes of `s` are those of `word`.
+// Whether the first bytes of `s` are those of `word`: a call of its own, since the promises name it.
 pub fn starts_with(s: &[u8], word: &[u8]) -> bool
     ensures { result ≡ starts_with nat_eq s.now word.now }
 {

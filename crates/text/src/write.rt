@@ -3,6 +3,7 @@ ghost use Rattle.std.specs.Prelude.{◌≡◌, ◌+◌, ◌≤◌, ◌<◌, leng
 ghost use Rattle.text.specs.Decimal.{text_of};
 ghost use Rattle.text.specs.Writing.{Wrote};
 
+// `out` and `at` stay two parameters, as the promises name them and callers hand them on.
 // Puts the bytes into `out` from `at` on and answers the place behind them; `None` where they don't fit, and `out` is as it was.
 #[tactic(auto, using(crate::proofs::Writing::wrote_none, crate::proofs::Writing::wrote_part))]
 pub fn write_bytes(out: &mut [u8], at: usize, bytes: &[u8]) -> Option<usize>

@@ -45,11 +45,11 @@ impl Power for Square {
     const DEGREE: u32 = 2;
 
     fn raised<N: Value>(root: N::Root) -> N {
-        N::widened(root) * N::widened(root)
+        N::of_root(root) * N::of_root(root)
     }
 
     fn gap<N: Value>(root: N::Root) -> N {
-        N::of(2) * N::widened(root) + N::of(1)
+        N::of(2) * N::of_root(root) + N::of(1)
     }
 
     fn widened<N: Value>(gap: N, _root: N::Root) -> N {
@@ -67,15 +67,15 @@ impl Power for Cube {
     const DEGREE: u32 = 3;
 
     fn raised<N: Value>(root: N::Root) -> N {
-        Square::raised::<N>(root) * N::widened(root)
+        Square::raised::<N>(root) * N::of_root(root)
     }
 
     fn gap<N: Value>(root: N::Root) -> N {
-        N::of(3) * (Square::raised::<N>(root) + N::widened(root)) + N::of(1)
+        N::of(3) * (Square::raised::<N>(root) + N::of_root(root)) + N::of(1)
     }
 
     fn widened<N: Value>(gap: N, root: N::Root) -> N {
-        gap + N::of(6) * N::widened(root)
+        gap + N::of(6) * N::of_root(root)
     }
 
     ghost degree_law = { refl };

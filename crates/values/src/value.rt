@@ -4,12 +4,14 @@ ghost use Rattle.defs.specs.Kinds.{Width, u8, u16, u32, u64, bits_of, root_bits}
 
 use crate::word::Word;
 
+// An impl says for its type what each law asks, and none may be a macro's: so there are four.
 pub trait Value: Word {
     type Root: Word;
 
     ghost width: { Width };
 
-    fn widened(root: Self::Root) -> Self
+    // The number of a root as a value.
+    fn of_root(root: Self::Root) -> Self
         ensures { Self.number result ≡ Self.Root.number root };
 
     ghost bits_law: { Self.bits ≡ bits_of width };
@@ -22,7 +24,7 @@ impl Value for u8 {
 
     ghost width = { u8 };
 
-    fn widened(root: u8) -> u8 {
+    fn of_root(root: u8) -> u8 {
         root
     }
 
@@ -36,7 +38,7 @@ impl Value for u16 {
 
     ghost width = { u16 };
 
-    fn widened(root: u8) -> u16 {
+    fn of_root(root: u8) -> u16 {
         root as u16
     }
 
@@ -50,7 +52,7 @@ impl Value for u32 {
 
     ghost width = { u32 };
 
-    fn widened(root: u16) -> u32 {
+    fn of_root(root: u16) -> u32 {
         root as u32
     }
 
@@ -64,7 +66,7 @@ impl Value for u64 {
 
     ghost width = { u64 };
 
-    fn widened(root: u32) -> u64 {
+    fn of_root(root: u32) -> u64 {
         root as u64
     }
 

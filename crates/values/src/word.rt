@@ -5,7 +5,8 @@ ghost use Rattle.std.specs.Int.Count.{count_leading_zeros};
 
 use std::ops::{Add, AddAssign, Mul, Shl, Shr, Sub, SubAssign};
 
-// A word of some bits, whose operations are exact where the answer fits.
+// A word of some bits, whose operations are exact where the answer fits. An impl says for its type what each law asks, and none may be a
+// macro's: so there are four.
 pub trait Word: Copy
     + Drop
     + PartialOrd

@@ -37,9 +37,9 @@ fn batch_of_other_length(rt: &impl Print) -> io::Result<()> {
 }
 
 fn main(rt: HostRuntime) -> io::Result<()> {
-    let s = roots::sqrt_rem(18446744073709551615u64);
+    let s = roots::sqrt_rem(u64::MAX);
     answer(&rt, "square u64 max", s.root as u64, s.rest)?;
-    let c = roots::cbrt_rem(18446744073709551615u64);
+    let c = roots::cbrt_rem(u64::MAX);
     answer(&rt, "cube u64 max", c.root as u64, c.rest)?;
     batch_under(&rt, 0)?;
     batch_under(&rt, 3)?;

@@ -9,13 +9,13 @@ pub(crate) fn answer(rt: &impl Print, name: &str, root: u64, rest: u64) -> io::R
     println!(rt; "  rest {rest}")
 }
 
-// The number of a batch's refusal, 0 where it has none.
+// The number of a refusal, 0 where there is none.
+fn number<T: Drop>(a: Result<T, Refusal>) -> u8 {
+    a.err().map_or(0, |refusal| refusal.number())
+}
+
 pub(crate) fn refusal(rt: &impl Print, a: Result<Finished, Refusal>) -> io::Result<()> {
-    let number = match a {
-        Ok(_) => 0,
-        Err(refusal) => refusal.number(),
-    };
-    println!(rt; "batch, refusal {number}")
+    println!(rt; "batch, refusal {}", number(a))
 }
 
 // What a batch did: nothing where it was refused.
@@ -33,10 +33,6 @@ pub(crate) fn roots(rt: &impl Print, places: &[u16; 4]) -> io::Result<()> {
 }
 
 pub(crate) fn rebuilt(rt: &impl Print, rebuilt: Result<u32, Refusal>) -> io::Result<()> {
-    let (refusal, value) = match rebuilt {
-        Ok(value) => (0, value),
-        Err(refusal) => (refusal.number(), 0),
-    };
-    println!(rt; "rebuilt: refusal {refusal}")?;
-    println!(rt; "  value {value}")
+    println!(rt; "rebuilt: refusal {}", number(rebuilt))?;
+    println!(rt; "  value {}", rebuilt.unwrap_or(0))
 }

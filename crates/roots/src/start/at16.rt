@@ -6,6 +6,7 @@ use crate::start::Start;
 use tables::guess;
 use values::{Cube, Square};
 
+// The bounds are the six numbers of the table of cells, each tried with a wrong one beside it.
 impl Start<Square> for u16 {
     fn bound() -> u16 {
         0x4000
@@ -33,7 +34,7 @@ impl Start<Cube> for u16 {
 }
 
 // q: where the table is entered, three bits further up where the top bit is set.
-// By itself at each width: over the width it would take two bounds, two shifts and a cast, and name the letter no more plainly.
+// By itself at each width: over the width it would take a bound and two shifts, and name the letter no more plainly.
 fn place(n: u16) -> u16
     ensures { result ≡ q n }
 {

@@ -10,6 +10,7 @@ use tables::guess;
 use values::{Cube, Power, Square};
 use wide::{WideMul, saturating_double16};
 
+// The bounds are the six numbers of the table of cells, each tried with a wrong one beside it.
 impl Start<Square> for u32 {
     fn bound() -> u32 {
         0x4000_0000
@@ -54,11 +55,11 @@ fn near_sqrt(n: u32, r: u16) -> u16
 }
 
 // g: the value's top bits, three bits less of them from 2^30 on.
-// By itself at each width: over the width it would take two bounds, two shifts and a cast, and name the letter no more plainly.
+// By itself at each width: over the width it would take a bound and two shifts, and name the letter no more plainly.
 fn place_cbrt(n: u32) -> u16
     ensures { result ≡ cb32.g n }
 {
-    if n >= 1073741824 {
+    if n >= 0x4000_0000 {
         (n >> 19) as u16
     } else {
         (n >> 16) as u16
@@ -78,9 +79,10 @@ fn rcbrt(n: u32) -> u16
 }
 
 // r: y, halved for an eighth of the value, and ten less so that the start is never above the root.
+// By itself at each width: over the width it would take a bound and a constant, and name the letter no more plainly.
 fn lowered_cbrt(n: u32, y: u16) -> u16
     requires { (2 ^ 29 ≤ n) × (y ≡ cb32.y n) }
     ensures { result ≡ cb32.r n }
 {
-    if n >= 1073741824 { y / 2 - 10 } else { y - 10 }
+    if n >= 0x4000_0000 { y / 2 - 10 } else { y - 10 }
 }

@@ -10,6 +10,7 @@ use tables::guess;
 use values::{Cube, Power, Square};
 use wide::WideMul;
 
+// The bounds are the six numbers of the table of cells, each tried with a wrong one beside it.
 impl Start<Square> for u64 {
     fn bound() -> u64 {
         0x4000_0000_0000_0000
@@ -62,7 +63,7 @@ fn near_sqrt(n: u64, r: u32) -> u32
 }
 
 // g: the value's top bits, three bits less of them from 2^63 on.
-// By itself at each width: over the width it would take two bounds, two shifts and a cast, and name the letter no more plainly.
+// By itself at each width: over the width it would take a bound and two shifts, and name the letter no more plainly.
 fn place_cbrt(n: u64) -> u32
     ensures { result ≡ cb64.g n }
 {
@@ -94,6 +95,7 @@ fn rcbrt(n: u64) -> u32
 }
 
 // r: y, halved for an eighth of the value, and one less so that the start is never above the root.
+// By itself at each width: over the width it would take a bound and a constant, and name the letter no more plainly.
 fn lowered_cbrt(n: u64, y: u32) -> u32
     requires { (2 ^ 61 ≤ n) × (y ≡ cb64.y n) }
     ensures { result ≡ cb64.r n }

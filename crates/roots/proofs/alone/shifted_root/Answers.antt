@@ -7,5 +7,5 @@ pub returns : goal.returns
 returns g c =
     let fits = rw g.met.N.Value.bits_law at c.fitted.ensures.fits in
     let top = rw (g.met.N.Word.shl_law _ _ _ c.shl-top.ensures, c.fitted.ensures.same, c.DEGREE.ensures, g.met.K.Power.degree_law, g.met.N.Value.bits_law) at c.fix_error.ensures.fixed.root_rem.is_root in
-    root_back_of g.K.Power.kind g.N.Value.width (bound_wide _ _ c.requires.wide) c.requires.some fits c.back_of-back.ensures top
+    root_back_of g.K.Power.kind g.N.Value.width (bound_wide _ _ c.requires.more_than_a_byte) c.requires.some fits c.back_of-back.ensures top
     (g.met.N.Root.Word.shr_law _ _ _ c.shr.ensures)

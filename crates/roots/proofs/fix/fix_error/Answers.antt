@@ -41,10 +41,7 @@ loop-gap-preserved g c =
       c.of.ensures,
     ) (goes_on c.loop-gap.invariant more)
 
-pub sub-requires : goal.sub-requires
-sub-requires g c = g.met.N.Root.Word.can_sub_law c.loop-gap.root c.args.start c.loop-gap.invariant.passed
-
 pub returns-clause-fixed : goal.returns-clause-fixed
 returns-clause-fixed g c =
     let less = below (g.met.N.Word.order_law c.loop-gap.rest c.loop-gap.gap) (sym c.ge.ensures ∙ c.loop-gap-test.false) in
-    ends c.loop-gap.invariant less (omega (arith, g.met.N.Root.Word.sub_law c.loop-gap.root c.args.start c.sub.result c.sub.ensures, c.loop-gap.invariant.passed))
+    ends c.loop-gap.invariant less (omega (arith, g.met.N.Root.Word.sub_law _ _ _ c.sub.ensures, c.loop-gap.invariant.passed))

@@ -8,7 +8,7 @@ pub raised-requires : goal.raised-requires
 raised-requires g c =
     let fits = rw g.met.N.Value.bits_law at c.fitted.ensures.fits in
     let top = rw (g.met.N.Word.shl_law _ _ _ c.shl-top.ensures, c.fitted.ensures.same, c.DEGREE.ensures, g.met.K.Power.degree_law, g.met.N.Value.bits_law) at c.fix_error-fixed.ensures.fixed.root_rem.is_root in
-    let root = root_back_of g.K.Power.kind g.N.Value.width (bound_wide _ _ c.requires.wide) c.requires.some fits c.back_of-back.ensures top
+    let root = root_back_of g.K.Power.kind g.N.Value.width (bound_wide _ _ c.requires.more_than_a_byte) c.requires.some fits c.back_of-back.ensures top
     (g.met.N.Root.Word.shr_law _ _ _ c.shr-root.ensures) in
     lt_of_le_of_lt root.fits c.fitted.ensures.fits
 
@@ -16,14 +16,14 @@ pub sub-requires : goal.sub-requires
 sub-requires g c =
     let fits = rw g.met.N.Value.bits_law at c.fitted.ensures.fits in
     let top = rw (g.met.N.Word.shl_law _ _ _ c.shl-top.ensures, c.fitted.ensures.same, c.DEGREE.ensures, g.met.K.Power.degree_law, g.met.N.Value.bits_law) at c.fix_error-fixed.ensures.fixed.root_rem.is_root in
-    let root = root_back_of g.K.Power.kind g.N.Value.width (bound_wide _ _ c.requires.wide) c.requires.some fits c.back_of-back.ensures top
+    let root = root_back_of g.K.Power.kind g.N.Value.width (bound_wide _ _ c.requires.more_than_a_byte) c.requires.some fits c.back_of-back.ensures top
     (g.met.N.Root.Word.shr_law _ _ _ c.shr-root.ensures) in
     g.met.N.Word.can_sub_law _ _ (rw c.raised.ensures root.fits)
 
 pub returns : goal.returns
 returns g c =
     let fits = rw g.met.N.Value.bits_law at c.fitted.ensures.fits in
-    answer_back g.K.Power.kind g.N.Value.width (bound_wide _ _ c.requires.wide) c.requires.some fits c.back_of-back.ensures
+    answer_back g.K.Power.kind g.N.Value.width (bound_wide _ _ c.requires.more_than_a_byte) c.requires.some fits c.back_of-back.ensures
     (rw (g.met.N.Word.shl_law _ _ _ c.shl-top.ensures, c.fitted.ensures.same, c.DEGREE.ensures, g.met.K.Power.degree_law, g.met.N.Value.bits_law, ← c.fix_error-fixed.ensures.start) at c.start.ensures)
     (rw (g.met.N.Word.shl_law _ _ _ c.shl-top.ensures, c.fitted.ensures.same, c.DEGREE.ensures, g.met.K.Power.degree_law, g.met.N.Value.bits_law, ← c.fix_error-fixed.ensures.start) at c.fix_error-fixed.ensures.fixed)
     (g.met.N.Root.Word.shr_law _ _ _ c.shr-root.ensures)
