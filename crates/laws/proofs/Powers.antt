@@ -2,8 +2,8 @@
 use mathlib.Core.Path.{◌≡◌, refl}
 use mathlib.Core.Bool.{Bool, true, false}
 use mathlib.Core.Logic.{◌⊎◌, inl, inr}
-use Prim.Native.Nat.{ℕ, zero, suc, ◌+◌, ◌*◌, ◌≤◌, ◌<◌, zero-le}
-use native.Mathlib.Nat.{mul-pos, mul-le-mul, lt_of_not-le, lt_of_lt_of_le, lt_irrefl, le_refl, le-mul_of_pos_right, zero-lt-suc}
+use Prim.Native.Nat.{ℕ, ◌+◌, ◌*◌, ◌≤◌, ◌<◌}
+use native.Mathlib.Nat.{mul-pos, mul-le-mul, lt_of_not-le, lt_of_lt_of_le, lt_irrefl}
 use native.Mathlib.Omega.{arith}
 use lib.Dec.{leb}
 use borrow.Author.Tests.{leb-true, leb-false}
@@ -30,12 +30,6 @@ rises cube h = mul-le-mul (mul-le-mul h h) h
 -- the power of a is below that of b, so a is below b
 pub below : (k : Kind) (a b : ℕ) → pow k a < pow k b → a < b
 below k a b h = lt_of_not-le (λ (g : b ≤ a). lt_irrefl (pow k a) (lt_of_lt_of_le h (rises k g)))
-
--- a square is at most the power
-pub square_most : (k : Kind) (s : ℕ) → s * s ≤ pow k s
-square_most square s = le_refl (s * s)
-square_most cube zero = zero-le
-square_most cube (suc s) = le-mul_of_pos_right (suc s * suc s) (zero-lt-suc s)
 
 -- the power of a product, and of what is not 0
 pub pow_product : (k : Kind) (a b : ℕ) → pow k (a * b) ≡ pow k a * pow k b
