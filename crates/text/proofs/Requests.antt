@@ -1,13 +1,16 @@
 -- What a text asks behind its word and before its newline, and where it asks nothing. Assumes nothing.
 use mathlib.Core.Path.{◌≡◌, refl, ap}
+use mathlib.Core.Bool.{true, false}
 use mathlib.Core.List.{List, ◌++◌}
 use Prim.Native.Nat.{ℕ, ◌-◌}
 use native.Mathlib.Omega.{arith}
-use lib.ListN.{length, length-append}
+use lib.ListN.{length, length-append, take, drop}
 use lib.Seq.{drop-append_seam, take-append_seam}
 use Rattle.std.specs.Prelude.{None, nat_eq}
 use Rattle.std.specs.List.{starts_with, ends_with}
 use Rattle.std.specs.Option.{option_map}
+use Rattle.std.proofs.Math.Seq.{take-length}
+use Rattle.std.proofs.lemmas.List.{length-drop}
 use Rattle.std.proofs.lemmas.Bool.{false_from_ne_true}
 use Rattle.std.proofs.lemmas.Bool.Decides.{Decides-eqb}
 use Rattle.std.proofs.lemmas.Slice.Eq.{starts_is, ends_is}
@@ -20,10 +23,16 @@ module _ (word : List ℕ) (k : Named) where
   unfolding asked_of
   behind_word {s} t e = rw ((starts_is Decides-eqb s word _ refl).1 t e, e, drop-append_seam word t)
 
-  -- a text without the word in front asks nothing
-  pub no_word : (s : List ℕ) → ((t : List ℕ) → s ≡ word ++ t → ⊥) → asked_of word k s ≡ None
+  -- of a text that starts with the word it is the rest, as a slice from the word's end on has it
+  pub left_by_word : (s : List ℕ) → starts_with nat_eq s word ≡ true →
+      asked_of word k s ≡ line_of k (take (length s - length word) (drop (length word) s))
   unfolding asked_of
-  no_word s none = rw (false_from_ne_true (starts_with nat_eq s word) (λ e. none _ ((starts_is Decides-eqb s word _ refl).0 e)))
+  left_by_word s e = rw (e, ← length-drop (length word) s, take-length (drop (length word) s))
+
+  -- a text without the word in front asks nothing
+  pub no_word : (s : List ℕ) → starts_with nat_eq s word ≡ false → asked_of word k s ≡ None
+  unfolding asked_of
+  no_word s e = rw e
 
 module _ (k : Named) where
   -- what stands before the newline is the number

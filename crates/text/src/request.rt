@@ -13,7 +13,7 @@ pub struct Request {
     pub value: u32,
 }
 
-// Whether the first bytes of `s` are those of `word`: a call of its own, since the promises name it.
+// Whether the first bytes of `s` are those of `word`.
 pub fn starts_with(s: &[u8], word: &[u8]) -> bool
     ensures { result ≡ starts_with nat_eq s.now word.now }
 {
@@ -24,7 +24,10 @@ pub fn starts_with(s: &[u8], word: &[u8]) -> bool
 fn asked(s: &[u8], word: &[u8], kind: Kind) -> Option<Request>
     ensures { result ≡ asked_of word.now kind s.now }
 {
-    let digits = s.strip_prefix(word)?.strip_suffix(b"\n")?;
+    if !starts_with(s, word) {
+        return None;
+    }
+    let digits = s[word.len()..].strip_suffix(b"\n")?;
     let value = read_decimal(digits, 10, u32::MAX as u64)?;
     Some(Request {
         kind,
