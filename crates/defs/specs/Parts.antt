@@ -1,4 +1,4 @@
--- What the calls are put together from: the promises of a shift, a start and a fix-up, which no caller from outside sees.
+-- What the calls are put together from: the promises of a shift, a start and a fix-up, and the gap from one power to the next. What a call answers is said without them.
 use Rattle.std.specs.Prelude.{◌≡◌, ℕ, ◌+◌, ◌*◌, ◌/◌, ◌%◌, ◌^◌, ◌≤◌, ◌<◌}
 use Rattle.defs.specs.Kinds.{Kind, square, cube, Width, pow, degree, bits_of, root_bits}
 use Rattle.defs.specs.Roots.{RootRem}

@@ -7,6 +7,7 @@ impl<K: Power> Start<K> for u8 {
         0
     }
 
+    #[tactic(auto, using(laws::proofs::Bills::starts_8))]
     fn start(self) -> u8 {
         0
     }
