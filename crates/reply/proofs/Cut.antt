@@ -2,11 +2,12 @@
 use mathlib.Core.Path.{◌≡◌, sym, ◌∙◌, ap}
 use mathlib.Core.List.{List, [], ◌∷◌}
 use mathlib.Core.Logic.{◌⊎◌, inl, inr}
-use Prim.Native.Nat.{ℕ, ◌≤◌, ◌<◌}
+use Prim.Native.Nat.{ℕ, ◌≤◌, ◌<◌, min}
 use native.Mathlib.Omega.{arith}
 use lib.Dec.{lit≤}
 use lib.ListN.{length, take, length-append, length-take}
 use lib.Seq.{take_all, length-take-le}
+use Rattle.std.proofs.lemmas.List.{take_min}
 use Rattle.defs.specs.Kinds.{Kind, square, cube}
 use Rattle.laws.proofs.Powers.{le_or_lt}
 use Rattle.text.specs.Request.{Asks, word_of}
@@ -41,6 +42,11 @@ cut_reply n s h = by_size (le_or_lt (length s) n)
 pub replied : {window : List ℕ} {read : ℕ} {old new : List ℕ} {r : Option ℕ} → 18 < length window →
     Wrote old 0 (reply_of (take read window)) new r → Replied window read old new r
 replied {window} long w = record { to_each = λ input seen. wrote_same (ap reply_of seen ∙ cut_reply (length window) input long) w }
+
+-- and so is a slice of it that ends where the read did, or at the window's end
+pub replied_at : {window : List ℕ} {read end : ℕ} {old new : List ℕ} {r : Option ℕ} → 18 < length window → end ≡ min read (length window) →
+    Wrote old 0 (reply_of (take end window)) new r → Replied window read old new r
+replied_at {window} {read} long e w = replied long (wrote_same (ap reply_of (rw e (take_min read window))) w)
 
 -- what was read is such an input itself
 pub own_reply : {window : List ℕ} {read : ℕ} {old new : List ℕ} {r : Option ℕ} → Replied window read old new r →

@@ -31,6 +31,7 @@ pub fn reply(input: &[u8], out: &mut [u8]) -> Option<usize>
 
 // The reply to an input of which `read` bytes were read into a window; a `read` above its length counts as its length.
 // The window is longer than any good input, so what was not read does not matter.
+#[tactic(auto, using(crate::proofs::Cut::replied_at))]
 pub fn reply_to_window(window: &[u8; 32], read: usize, out: &mut [u8]) -> Option<usize>
     ensures { Replied window.now read out.old out.new result }
 {
